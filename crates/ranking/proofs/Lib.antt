@@ -1,0 +1,4 @@
+pub mod Lists
+pub mod Placing
+pub mod Ranked
+pub mod Walking

@@ -1,0 +1,4 @@
+pub mod Lists
+pub mod Ranking
+pub mod Walks
+pub mod Laws
