@@ -1,0 +1,4 @@
+pub mod Extremes
+pub mod Prices
+pub mod Passing
+pub mod Scans

@@ -1,0 +1,5 @@
+pub mod Sides
+pub mod Price
+pub mod Outcomes
+pub mod Laws
+pub mod Passes
