@@ -18,7 +18,7 @@ pub struct Order {
 
 impl Order {
     // Takes a traded quantity from what is open: nothing is left where more was traded.
-    pub fn lower(&mut self, by: u32)
+    pub fn reduce(&mut self, by: u32)
         ensures { λ _. ⌜ now (self .exit) ≡ lowered (now (self .entry)) by ⌝ }
     {
         self.quantity = self.quantity.saturating_sub(by);
