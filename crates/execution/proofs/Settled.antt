@@ -1,0 +1,36 @@
+-- What stands after some lines. Assumes nothing.
+use mathlib.Core.Path.{_≡_, refl, sym, ap, subst, _∙_}
+use mathlib.Core.List.{List, [], _∷_, map}
+use mathlib.Core.Logic.{inl, inr}
+use Prim.Native.Nat.{ℕ, _-_, _<_}
+use native.Mathlib.Omega.{arith}
+use lib.Dec.{ltb}
+use Rattle.std.proofs.shelf.Tests.{ltb-true, lt-ltb}
+use Rattle.words.specs.declared.orders.Order.{Order}
+use Rattle.words.specs.declared.sides.Side.{Side}
+use Rattle.words.specs.declared.tape.Trade.{Trade}
+use Rattle.words.specs.Orders.{resized, lowered}
+use Rattle.ranking.specs.Lists.{In}
+use Rattle.ranking.proofs.Lists.{in-kept, kept-in, map-in}
+use Rattle.execution.specs.Settling.{traded, left-by, stands, settled}
+
+pub in-map : {X Y : Type 0} (f : X → Y) (xs : List X) (x : X) → In x xs → In (f x) (map f xs)
+in-map f [] x m = absurd m
+in-map f (y ∷ ys) x (inl e) = inl (ap f e)
+in-map f (y ∷ ys) x (inr m) = inr (in-map f ys x m)
+
+module _ (x : Side) (ls : List Trade) (os : List Order) where
+  pub settled-left : (o : Order) → In o os → traded x (o .number) ls < o .quantity → In (left-by x ls o) (settled x ls os)
+  settled-left o m h = in-kept stands (map (left-by x ls) os) (left-by x ls o) (in-map (left-by x ls) os o m) (lt-ltb _ _ (omega arith))
+
+  pub settled-same : (o : Order) → In o os → 0 < o .quantity → traded x (o .number) ls ≡ 0 → In o (settled x ls os)
+  settled-same o m h e =
+      let all : o .quantity - traded x (o .number) ls ≡ o .quantity = omega arith in
+      subst (λ z. In z (settled x ls os)) (ap (resized o) all) (settled-left o m (omega arith))
+
+  pub settled-from : (o : Order) → In o (settled x ls os) → (q : Order) × In q os × (o ≡ left-by x ls q) × (traded x (q .number) ls < q .quantity)
+  settled-from o m =
+      let k = kept-in stands (map (left-by x ls) os) o m in
+      let r = map-in (left-by x ls) os o (k .0) in
+      let rest : o .quantity ≡ r .0 .quantity - traded x (r .0 .number) ls = ap (λ z. z .quantity) (r .2) in
+      (r .0, r .1, r .2, omega (arith, ltb-true _ _ (k .1)))

@@ -1,0 +1,2 @@
+// The execution of an auction: both sides ranked and walked in pairs, the lines written on a lent tape, the book settled by them.
+pub mod laws;
