@@ -19,9 +19,10 @@ use Rattle.pricing.specs.Sides.{Sides, can-trade, demand, supply, volume}
 use Rattle.execution.specs.Execution.{ready, Pair, walk, pairs, line, executed}
 use Rattle.execution.specs.Settling.{named-by, traded, after-trades}
 use Rattle.execution.specs.Laws.{standing, Apart, Trader, Remainder, Executed, Law-of-execution}
-use Rattle.execution.proofs.Shares.{same-order, ready-total, ready-short, ready-had, side-within, side-ahead}
+use Rattle.execution.proofs.Sided.{same-order, ready-total, ready-short, ready-had, side-within, side-ahead}
 use Rattle.execution.proofs.Settled.{in-map, settled-left, settled-same, settled-from}
-use Rattle.execution.proofs.Walks.{held, share, paid, flip, walk-volume, walk-share, walk-flip, walk-names, walk-short}
+use Rattle.execution.specs.Shares.{share}
+use Rattle.execution.proofs.Walks.{held, paid, flip, walk-volume, walk-share, walk-flip, walk-names, walk-short}
 
 module _ (s : Sides) (p : ℕ) where
   abbrev bs : List Order

@@ -1,6 +1,7 @@
 pub mod Ranks
 pub mod Walks
-pub mod Shares
+pub mod Sided
 pub mod Settled
 pub mod Executes
 pub mod Writing
+pub mod Taken

@@ -14,17 +14,13 @@ use Rattle.words.specs.declared.orders.Order.{Order}
 use Rattle.words.specs.Orders.{lowered}
 use Rattle.ranking.specs.Lists.{In, Earlier, total}
 use Rattle.execution.specs.Laws.{count, Apart}
+use Rattle.execution.specs.Shares.{share}
 use Rattle.ranking.specs.Ranking.{InRank}
 use Rattle.execution.specs.Execution.{Pair, less-first, walk, pairs}
 use Rattle.ranking.proofs.Lists.{all-in, earlier-in}
 
 abbrev pub held : List Order → ℕ
 held xs = total (λ o. o .quantity) xs
-
--- what a volume that is taken down the list takes from the number
-abbrev pub share : ℕ → ℕ → List Order → ℕ
-share n v [] = 0
-share n v (x ∷ xs) = cond (eqb (x .number) n) (min v (x .quantity)) 0 + share n (v - x .quantity) xs
 
 -- what the pairs that name the number first add up to
 abbrev pub paid : ℕ → List Pair → ℕ

@@ -1,3 +1,4 @@
 pub mod Execution
 pub mod Settling
 pub mod Laws
+pub mod Shares

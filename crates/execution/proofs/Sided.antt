@@ -21,7 +21,8 @@ use Rattle.pricing.specs.Sides.{can-trade, open-at}
 use Rattle.execution.specs.Execution.{ready}
 use Rattle.execution.specs.Laws.{count, Apart}
 use Rattle.execution.proofs.Ranks.{side-ranks, front}
-use Rattle.execution.proofs.Walks.{held, share, in-count, absent, share-within, share-ahead, share-whole}
+use Rattle.execution.specs.Shares.{share}
+use Rattle.execution.proofs.Walks.{held, in-count, absent, share-within, share-ahead, share-whole}
 
 -- two of one number are one order
 pub same-order : (o q : Order) (os : List Order) → Apart os → In o os → In q os → o .number ≡ q .number → o ≡ q
