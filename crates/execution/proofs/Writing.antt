@@ -8,7 +8,9 @@ use native.Mathlib.Omega.{arith}
 use lib.Dec.{ltb}
 use lib.ListN.{length, getD, set, take, drop}
 use Rattle.std.specs.shelf.Lists.{kept-by}
-use Rattle.std.proofs.shelf.Lists.{take-more-set, drop-set-lt, drop-set, drop-more, drop-drop, drop-all, append-assoc, append-nil}
+use Rattle.std.proofs.shelf.Lists.{take-more-set, drop-set-lt, drop-set, drop-more, drop-drop, drop-all, append-assoc, append-nil, take-append-drop, take-all}
+use lib.ListN.{length-take}
+use lib.Seq.{take-append-le}
 use Rattle.std.proofs.shelf.Elements.{kept-by-more}
 use Rattle.std.proofs.shelf.Sums.{folded-push}
 use Rattle.std.proofs.shelf.Tests.{ltb-true, ltb-false}
@@ -20,7 +22,7 @@ use Rattle.words.specs.declared.sides.Side.{Side}
 use Rattle.words.specs.Orders.{lowered}
 use Rattle.words.specs.Ranks.{ranks-before}
 use Rattle.pricing.specs.Sides.{can-trade}
-use Rattle.execution.specs.Execution.{Pair, less-first, pairs, line, ready}
+use Rattle.execution.specs.Execution.{Pair, less-first, pairs, line, ready, written}
 use Rattle.execution.proofs.Walks.{pairs-none, pairs-step}
 
 -- ---- one order more, ranked
@@ -80,3 +82,14 @@ rest-more tape first n l e = drop-set-lt (n + 1) tape n l (omega arith) ∙ sym 
 pub write-all : (price : ℕ) (bs ss : List Order) (tape : List Trade) (i j n : ℕ) → (length bs ≤ i) ⊎ (length ss ≤ j) → take n tape ++ map (line price) (pairs (drop i bs) (drop j ss)) ≡ take n tape
 write-all price bs ss tape i j n h =
     ap (λ ts. take n tape ++ map (line price) ts) (pairs-none (drop i bs) (drop j ss) (⊎-elim (λ k. inl (drop-all i bs k)) (λ k. inr (drop-all j ss k)) h)) ∙ append-nil (take n tape)
+
+
+-- ---- the whole tape
+
+pub written-is : (before after ls : List Trade) (n : ℕ) → take n after ≡ ls → drop n after ≡ drop n before → n ≤ length after → (n ≡ length ls) × (after ≡ written ls before)
+written-is before after ls n e f h =
+    let count : n ≡ length ls = omega (arith, ap length e, length-take n after) in
+    (count, sym (take-append-drop n after) ∙ ap₂ (λ a b. a ++ b) e (f ∙ ap (λ k. drop k before) count))
+
+pub written-front : (before after ls : List Trade) (n : ℕ) → n ≡ length ls → after ≡ written ls before → take n after ≡ ls
+written-front before after ls n e f = ap₂ take e f ∙ take-append-le (length ls) ls (drop (length ls) before) (omega arith) ∙ take-all (length ls) ls (omega arith)

@@ -1,9 +1,9 @@
 -- The execution of an auction at a price (Article 21): both sides are walked in rank, in pairs. Assumes nothing.
 use mathlib.Core.Bool.{cond}
-use mathlib.Core.List.{List, [], _∷_, map}
+use mathlib.Core.List.{List, [], _∷_, _++_, map}
 use Prim.Native.Nat.{ℕ, zero, suc, _+_, min}
 use lib.Dec.{ltb}
-use lib.ListN.{length}
+use lib.ListN.{length, drop}
 use Rattle.std.specs.shelf.Lists.{kept-by}
 use Rattle.words.specs.declared.orders.Order.{Order}
 use Rattle.words.specs.declared.sides.Side.{Side}
@@ -47,3 +47,7 @@ line p t = record { buy = t .one; sell = t .other; price = p; quantity = t .quan
 -- the lines of the execution at a price
 abbrev pub executed : Sides → ℕ → List Trade
 executed s p = map (line p) (pairs (ready Buy p (s .buys)) (ready Sell p (s .sells)))
+
+-- lines at the front of a tape: its further places stay
+abbrev pub written : List Trade → List Trade → List Trade
+written ls tape = ls ++ drop (length ls) tape
