@@ -2,3 +2,4 @@ pub mod Codes
 pub mod Terms
 pub mod Orders
 pub mod Ranks
+pub mod Refused

@@ -34,11 +34,20 @@ limit-of (Limit l) = Some l
 limit-of Market = None
 limit-of MarketToLimit = None
 
--- the terms that a kind and a price field make: a limit order has a price, the others have 0 there
+-- a limit order has a price in its price field, the others have 0 there
+abbrev pub price-fits : Kind → ℕ → Bool
+price-fits kinds.Limit p = is-price p
+price-fits kinds.Market p = eqb p 0
+price-fits kinds.MarketToLimit p = eqb p 0
+
+abbrev pub terms-for : Kind → ℕ → Terms
+terms-for kinds.Limit p = Limit p
+terms-for kinds.Market p = Market
+terms-for kinds.MarketToLimit p = MarketToLimit
+
+-- the terms that a kind and a price field make
 abbrev pub terms-from : Kind → ℕ → Result Terms Refusal
-terms-from kinds.Limit p = cond (is-price p) (Ok (Limit p)) (Err PriceUnfit)
-terms-from kinds.Market p = cond (eqb p 0) (Ok Market) (Err PriceUnfit)
-terms-from kinds.MarketToLimit p = cond (eqb p 0) (Ok MarketToLimit) (Err PriceUnfit)
+terms-from k p = cond (price-fits k p) (Ok (terms-for k p)) (Err PriceUnfit)
 
 -- an order can trade at a price if it has no limit, or its limit allows that price: a buy's at or below it, a sell's at or above it
 abbrev pub allows : Side → ℕ → ℕ → Bool

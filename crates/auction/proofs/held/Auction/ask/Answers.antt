@@ -1,0 +1,47 @@
+use mathlib.Core.Path.{_≡_, sym, ap, subst, _∙_}
+use Prim.Native.Nat.{_≤_}
+use native.Mathlib.Omega.{arith}
+use Rattle.std.specs.Options.{isSome}
+use Rattle.std.specs.Of.Vec.{vec-items, vec-cap}
+use Rattle.std.specs.declared.result.Result.the-variants.{Ok}
+use Rattle.pricing.specs.Laws.{Law-of-price}
+use Rattle.book.specs.Asking.{answer-of}
+use Rattle.book.specs.Books.{standing-of, joined}
+use Rattle.auction.specs.Calls.{ask-by}
+use Rattle.auction.specs.Sound.{Sound}
+use Rattle.auction.specs.States.{view}
+use Rattle.auction.proofs.Sounds.{few-joined, empty-again}
+use Rattle.auction.proofs.held.Auction.ask.Needs as need
+
+pub ask-requires : need.ask-requires
+ask-requires c κs =
+    let a = c .args .self .now in
+    let o = c .in-Continue-order .order in
+    let fit = c .in-Continue-order .ensures tt .fit in
+    let three = few-joined (a .last) (o .side) (standing-of (a .book)) o (a .«buys_sound») (a .«sells_sound») (omega (arith, fit .1, ap (λ z. z .quantity) (fit .0))) in
+    (omega (arith, a .«buys_sound» .0, a .book .buys .ok .0), (omega (arith, a .«sells_sound» .0, a .book .sells .ok .0), (three .0, three .1)))
+
+pub ghost-self : need.ghost-self
+ghost-self c =
+    let a = c .args .self .now in
+    let same = sym (c .ask .ensures .after ∙ empty-again (a .book) (a .clear)) in (
+      subst (λ b. Sound (a .last) (vec-items (b .buys))) same (a .«buys_sound»),
+      (subst (λ b. Sound (a .last) (vec-items (b .sells))) same (a .«sells_sound»),
+      (subst (λ b. 128 ≤ vec-cap (b .buys)) same (a .«buys_room»),
+      (subst (λ b. 128 ≤ vec-cap (b .sells)) same (a .«sells_room»),
+      (ap isSome (ap (λ b. b .asked) (sym same)) ∙ a .clear,
+      (a .numbers, tt))))),
+    )
+
+pub returns : need.returns
+returns c =
+    let a = c .args .self .now in
+    let s = standing-of (a .book) in
+    let fit = c .in-Continue-order .ensures tt .fit in
+    let same = c .ask .ensures .after ∙ empty-again (a .book) (a .clear) in
+    record {
+      same = same;
+      state = ap (λ b. record { reference = a .reference; last = a .last; sides = standing-of b }) same;
+      reply = ap Ok (c .ask .ensures .value ∙ ap (λ o. answer-of s o (a .reference)) (fit .0)) ∙ ap (ask-by (view a) (c .args .side) (c .args .kind) (c .args .price) (c .args .quantity)) (sym (fit .2));
+      law-of-price = subst (λ o. Law-of-price (joined s o) (a .reference) (c .ask .result .outcome .price)) (fit .0) (c .ask .ensures .law-of-price);
+    }

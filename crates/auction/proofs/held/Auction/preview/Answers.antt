@@ -1,0 +1,53 @@
+use mathlib.Core.Path.{_≡_, sym, ap, subst, _∙_}
+use Prim.Native.Nat.{_≤_}
+use native.Mathlib.Omega.{arith}
+use Rattle.std.specs.Options.{isSome}
+use Rattle.std.specs.Of.Vec.{vec-items, vec-cap}
+use Rattle.std.specs.declared.result.Result.the-variants.{Ok}
+use Rattle.execution.specs.Execution.{written}
+use Rattle.book.specs.Books.{standing-of, joined}
+use Rattle.book.specs.Striking.{trades-of, struck-of}
+use Rattle.auction.specs.Calls.{preview-by, tape-row}
+use Rattle.auction.specs.Sound.{Sound}
+use Rattle.auction.specs.States.{view}
+use Rattle.auction.proofs.Dues.{tape-long, order-first}
+use Rattle.auction.proofs.Sounds.{few-joined, empty-again}
+use Rattle.auction.proofs.held.Auction.preview.Needs as need
+
+pub preview-requires : need.preview-requires
+preview-requires c κs =
+    let a = c .args .self .now in
+    let o = c .in-Continue-order .order in
+    let fit = c .in-Continue-order .ensures tt .fit in
+    let three = few-joined (a .last) (o .side) (standing-of (a .book)) o (a .«buys_sound») (a .«sells_sound») (omega (arith, fit .1, ap (λ z. z .quantity) (fit .0))) in
+    (omega (arith, a .«buys_sound» .0, a .book .buys .ok .0), (omega (arith, a .«sells_sound» .0, a .book .sells .ok .0), (three .0, (three .1, omega (arith, three .2)))))
+
+pub ghost-self : need.ghost-self
+ghost-self c =
+    let a = c .args .self .now in
+    let same = sym (c .preview .ensures .after ∙ empty-again (a .book) (a .clear)) in (
+      subst (λ b. Sound (a .last) (vec-items (b .buys))) same (a .«buys_sound»),
+      (subst (λ b. Sound (a .last) (vec-items (b .sells))) same (a .«sells_sound»),
+      (subst (λ b. 128 ≤ vec-cap (b .buys)) same (a .«buys_room»),
+      (subst (λ b. 128 ≤ vec-cap (b .sells)) same (a .«sells_room»),
+      (ap isSome (ap (λ b. b .asked) (sym same)) ∙ a .clear,
+      (a .numbers, tt))))),
+    )
+
+pub returns : need.returns
+returns c =
+    let a = c .args .self .now in
+    let tape = c .args .tape .now in
+    let s = standing-of (a .book) in
+    let k = c .args .kind in
+    let fit = c .in-Continue-order .ensures tt .fit in
+    let e = c .preview .ensures in
+    let same = e .after ∙ empty-again (a .book) (a .clear) in
+    let lines = e .lines ∙ ap (λ o. written (trades-of (joined s o) (a .reference)) tape) (fit .0) in
+    let value = e .value ∙ ap (λ o. struck-of (joined s o) (a .reference)) (fit .0) in
+    let nothing-due = order-first k (c .args .price) (c .args .quantity) (tape-row tape) (fit .2) ∙ tape-long tape (c .if-tape-lt256 .left) in
+    record {
+      same = same;
+      state = ap (λ b. record { reference = a .reference; last = a .last; sides = standing-of b }) same;
+      reply = (λ i. (lines i, Ok (value i))) ∙ ap (preview-by (view a) (c .args .side) k (c .args .price) (c .args .quantity) tape) (sym nothing-due);
+    }

@@ -1,0 +1,4 @@
+pub mod Sound
+pub mod States
+pub mod Calls
+pub mod Laws
