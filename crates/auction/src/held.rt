@@ -24,4 +24,4 @@ pub struct Auction {
     ghost numbers: { last ≤ 60000 },
 }
 
-mod calls;
+pub mod calls;

@@ -1,6 +1,9 @@
 // What is refused, by number: each layer adds its cases.
 ghost use mathlib.Core.Path.{_≡_};
+ghost use mathlib.Core.Bool.{true};
+ghost use mathlib.Core.List.{List};
 ghost use Rattle.words.specs.Codes.{refusal-number};
+ghost use Rattle.words.specs.Refused.{Row, first-due, rising, Refused-rightly};
 
 #[derive(Clone, Copy)]
 pub enum Refusal {
@@ -31,4 +34,11 @@ impl Refusal {
             Refusal::NumbersUsedUp => 30,
         }
     }
+}
+
+// A table of refusals in the order of their numbers refuses for what is due with the smallest number, and only where something is due.
+pub fn refused_by_number() -> u8
+    ensures { λ _. ⌜ ((rows : List Row) → rising 0 rows ≡ true → Refused-rightly rows (first-due rows)) ⌝ }
+{
+    0
 }

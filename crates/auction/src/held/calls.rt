@@ -5,13 +5,14 @@ ghost use Prim.Native.Nat.{_≤_};
 ghost use Rattle.std.specs.declared.option.Option.the-variants.{None};
 ghost use Rattle.std.specs.Vec.{made};
 ghost use Rattle.auction.specs.Calls.{Made, order-of, order-rows, order-by, enter-step, ask-reply, preview-reply, strike-step};
-ghost use Rattle.auction.specs.Laws.{Law-of-call};
+ghost use Rattle.auction.specs.Laws.{Law-of-call, Refuses-by-number};
 ghost use Rattle.auction.specs.States.{view};
 ghost use Rattle.book.specs.Books.{joined};
 ghost use Rattle.book.specs.Striking.{trades-of};
 ghost use Rattle.execution.specs.Laws.{standing};
 ghost use Rattle.pricing.specs.Laws.{Law-of-price};
 ghost use Rattle.pricing.specs.Outcomes.{outcome-of};
+ghost use Rattle.pricing.specs.Sides.{open-at};
 ghost use Rattle.words.specs.Refused.{first-due};
 use super::Auction;
 use book::asking::Answer;
@@ -21,6 +22,7 @@ use book::striking::Struck;
 use book::striking::strike;
 use book::table::Book;
 use execution::scratch::Scratch;
+use pricing::demands::open_at;
 use pricing::outcomes::Outcome;
 use pricing::outcomes::find_price;
 use std::alloc::Global;
@@ -65,6 +67,17 @@ impl Auction {
         match side {
             Side::Buy => self.book.buys.as_slice(),
             Side::Sell => self.book.sells.as_slice(),
+        }
+    }
+
+    // Demand (the buys') or supply (the sells') at a price.
+    pub fn open_at(&self, side: Side, price: u32) -> u32
+        ensures value { λ r. ⌜ r ≡ open-at side price (standing side (view (now (self .entry)) .sides)) ⌝ }
+        ensures bound { λ r. ⌜ r ≤ 129000000 ⌝ }
+    {
+        match side {
+            Side::Buy => open_at(side, self.book.buys.as_slice(), price),
+            Side::Sell => open_at(side, self.book.sells.as_slice(), price),
         }
     }
 
@@ -173,4 +186,11 @@ impl Auction {
         }
         Ok(strike(&mut self.book, self.reference, tape, &mut self.ranked))
     }
+}
+
+// Each call is refused for what is due with the smallest number.
+pub fn refused_by_number() -> u8
+    ensures { λ _. ⌜ Refuses-by-number ⌝ }
+{
+    0
 }
