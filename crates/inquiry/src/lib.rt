@@ -1,0 +1,2 @@
+// A study put to the auction: its book is loaded, and its questions are answered.
+pub mod loading;

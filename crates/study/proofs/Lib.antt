@@ -1,0 +1,13 @@
+pub mod Runs
+pub mod Capped
+pub mod Points
+pub mod Writing
+pub mod Cutting
+pub mod Choosing
+pub mod Entering
+pub mod Lines
+pub mod Stepping
+pub mod Soundness
+pub mod Inked
+pub mod Spelling
+pub mod Retelling

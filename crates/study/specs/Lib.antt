@@ -1,0 +1,10 @@
+pub mod Phrases
+pub mod Bytes
+pub mod Numbers
+pub mod Written
+pub mod Wording
+pub mod Statements
+pub mod Studies
+pub mod Views
+pub mod Sound
+pub mod Writer
