@@ -119,7 +119,7 @@ pub(crate) fn write_picture<W: fmt::Write>(
         return writeln!(out, "No limit price stands.");
     }
     let most = largest(auction, asked, prices);
-    let unit = most / WIDTH + 1;
+    let unit = (most.saturating_sub(1) / WIDTH) + 1;
     writeln!(out, "Demand and supply at each limit price (a mark is {unit} shares)")?;
     writeln!(out, "                             demand     price     supply")?;
     for price in prices {

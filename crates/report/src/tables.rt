@@ -1,4 +1,5 @@
 // The tables and sentences of an answer.
+use book::asking::Answer;
 use execution::settling::left_of;
 use pricing::outcomes::Outcome;
 use std::fmt;
@@ -74,6 +75,14 @@ pub(crate) fn write_orders<W: fmt::Write>(out: &mut W, orders: &[Order]) -> fmt:
     Ok(())
 }
 
+// A number with its sign in a column of twelve; 0 has none.
+fn write_signed<W: fmt::Write>(out: &mut W, number: i64) -> fmt::Result {
+    if number == 0 {
+        return write!(out, "           0");
+    }
+    write!(out, "{number:>+12}")
+}
+
 // What a call gives, as one line of a table.
 pub(crate) fn write_outcome<W: fmt::Write>(out: &mut W, label: &str, outcome: Outcome) -> fmt::Result {
     write!(out, "  {label:<12}")?;
@@ -82,12 +91,30 @@ pub(crate) fn write_outcome<W: fmt::Write>(out: &mut W, label: &str, outcome: Ou
         None => write!(out, "      none")?,
     }
     let volume = outcome.volume;
-    let surplus = outcome.surplus;
-    writeln!(out, "  {volume:>10}  {surplus:>+10}")
+    write!(out, "  {volume:>10}")?;
+    write_signed(out, outcome.surplus)?;
+    writeln!(out, "")
 }
 
 pub(crate) fn write_outcome_head<W: fmt::Write>(out: &mut W) -> fmt::Result {
     writeln!(out, "                   price      volume     surplus")
+}
+
+// The same in words.
+pub(crate) fn write_sentence<W: fmt::Write>(out: &mut W, outcome: Outcome) -> fmt::Result {
+    let Some(price) = outcome.price else {
+        return writeln!(out, "There is no price: nothing can trade.");
+    };
+    let price = Leva(price);
+    let volume = outcome.volume;
+    let more = outcome.surplus.unsigned_abs();
+    if outcome.surplus > 0 {
+        writeln!(out, "{volume} shares trade at {price}; {more} more are wanted there than offered.")
+    } else if outcome.surplus < 0 {
+        writeln!(out, "{volume} shares trade at {price}; {more} more are offered there than wanted.")
+    } else {
+        writeln!(out, "{volume} shares trade at {price}; as many are wanted there as offered.")
+    }
 }
 
 // The trades of a call, one a line.
@@ -126,5 +153,18 @@ pub(crate) fn write_rest<W: fmt::Write>(out: &mut W, orders: &[Order], asked: Op
     match asked {
         Some(order) => write_left(out, order, lines),
         None => Ok(()),
+    }
+}
+
+// How many shares the asked order gets, and at what price.
+pub(crate) fn write_shares<W: fmt::Write>(out: &mut W, asked: Order, answer: Answer) -> fmt::Result {
+    let shares = answer.shares;
+    let quantity = asked.quantity;
+    match answer.outcome.price {
+        Some(price) if shares > 0 => {
+            let price = Leva(price);
+            writeln!(out, "The asked order gets {shares} of its {quantity} shares, at {price}.")
+        }
+        _ => writeln!(out, "The asked order gets none of its {quantity} shares."),
     }
 }
