@@ -26,7 +26,9 @@ use Rattle.execution.specs.Settling.{left-by, stands, settled}
 use Rattle.execution.proofs.Settled.{settled-from}
 use Rattle.std.specs.Options.{isSome}
 use Rattle.book.specs.declared.table.Book.{Book}
-use Rattle.book.specs.Books.{joined-on, placed, emptied}
+use Rattle.std.specs.Of.Vec.{vec-items, vec-cap}
+use Rattle.book.specs.Books.{joined-on, placed, emptied, standing-of, cap-of}
+use Rattle.auction.specs.declared.held.Auction.{Auction}
 use Rattle.book.specs.Striking.{after-at, after-strike}
 use Rattle.auction.specs.Sound.{Sound}
 
@@ -77,8 +79,8 @@ sound-entered last os o h room new small = (
   omega (arith, length-append os (o ∷ [])),
   large-more os o (h .1) small,
   λ n. ⊎-elim
-    (λ (e : o .number ≡ n). omega (arith, count-append n os o, h .3 n (omega arith), one-at-most (eqb (o .number) n)))
-    (λ e. omega (arith, count-append n os o, h .2 n, not-this (o .number) n e)) (cases-eq (o .number) n),
+      (λ (e : o .number ≡ n). omega (arith, count-append n os o, h .3 n (omega arith), one-at-most (eqb (o .number) n)))
+      (λ e. omega (arith, count-append n os o, h .2 n, not-this (o .number) n e)) (cases-eq (o .number) n),
   λ n k. omega (arith, count-append n os o, h .3 n (omega arith), not-this (o .number) n (λ e. omega arith)),
 )
 
@@ -113,8 +115,12 @@ kept-short t (x ∷ xs) =
 settled-count : (x : Side) (ls : List Trade) (os : List Order) (n : ℕ) → count n (settled x ls os) ≤ count n os
 settled-count x ls os n =
     let f : Order → ℕ = λ o. cond (eqb (o .number) n) 1 0 in
-    omega (arith, total-kept f stands (map (left-by x ls) os), total-map (λ o. cond (stands o) (f o) 0) (left-by x ls) os,
-      total-le (λ o. cond (stands (left-by x ls o)) (f o) 0) f os (λ o m. under (stands (left-by x ls o)) (f o)))
+    omega (
+      arith,
+      total-kept f stands (map (left-by x ls) os),
+      total-map (λ o. cond (stands o) (f o) 0) (left-by x ls) os,
+      total-le (λ o. cond (stands (left-by x ls o)) (f o) 0) f os (λ o m. under (stands (left-by x ls o)) (f o)),
+    )
 
 pub sound-settled : (last : ℕ) (x : Side) (ls : List Trade) (os : List Order) → Sound last os → Sound last (settled x ls os)
 sound-settled last x ls os h = (
@@ -130,3 +136,22 @@ sound-struck last reference s h k = go (auction-price s reference)
     go : (x : Option ℕ) → Sound last (after-at s x .buys) × Sound last (after-at s x .sells)
     go None = (h, k)
     go (Some p) = (sound-settled last Buy _ (s .buys) h, sound-settled last Sell _ (s .sells) k)
+
+-- ---- all that is kept true between calls, of a book
+
+abbrev pub Kept : ℕ → Book → Type 0
+Kept last b =
+    Sound last (vec-items (b .buys)) × (Sound last (vec-items (b .sells)) × ((128 ≤ vec-cap (b .buys)) × ((128 ≤ vec-cap (b .sells)) × ((isSome (b .asked) ≡ false) × ((last ≤ 60000) × Unit {0})))))
+
+pub kept : (a : Auction) → Kept (a .last) (a .book)
+kept a = (a .«buys_sound», (a .«sells_sound», (a .«buys_room», (a .«sells_room», (a .clear, (a .numbers, tt))))))
+
+-- a book with other orders, in the same memory, keeps it where they are sound
+pub kept-by-sound : (last : ℕ) (a : Auction) (b : Book) (s : Sides) → standing-of b ≡ s → Sound last (s .buys) → Sound last (s .sells) → ((x : Side) → cap-of x b ≡ cap-of x (a .book)) → b .asked ≡ a .book .asked → last ≤ 60000 → Kept last b
+kept-by-sound last a b s e h k room asked most = (
+  subst (λ t. Sound last (t .buys)) (sym e) h,
+  (
+    subst (λ t. Sound last (t .sells)) (sym e) k,
+    (omega (arith, room Buy, a .«buys_room»), (omega (arith, room Sell, a .«sells_room»), (ap isSome asked ∙ a .clear, (most, tt)))),
+  ),
+)

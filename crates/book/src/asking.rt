@@ -29,7 +29,13 @@ pub struct Answer {
 }
 
 // The answer of a book in which the order stands.
-fn reply_for(buys: &[Order], sells: &[Order], order: Order, reference: u32, ranked: &mut Scratch) -> Answer
+fn reply_for(
+    buys: &[Order],
+    sells: &[Order],
+    order: Order,
+    reference: u32,
+    ranked: &mut Scratch,
+) -> Answer
     requires { ⌜ Few (now buys) ⌝ ∗ ⌜ Few (now sells) ⌝ }
     ensures value { λ r. ⌜ r ≡ answer-in (sides (now (buys .entry)) (now (sells .entry))) order reference ⌝ }
     ensures law_of_price { λ r. ⌜ Law-of-price (sides (now (buys .entry)) (now (sells .entry))) reference (r .outcome .price) ⌝ }
@@ -44,7 +50,13 @@ fn reply_for(buys: &[Order], sells: &[Order], order: Order, reference: u32, rank
 
 // What would the call of the book give with the order in it, last in time, and how many shares would the order get?
 // A full side takes it too, since it has a place of its own. The book is found after it as before, that place empty.
-pub fn ask(book: &mut Book, order: Order, reference: u32, gathered: &mut Scratch, ranked: &mut Scratch) -> Answer
+pub fn ask(
+    book: &mut Book,
+    order: Order,
+    reference: u32,
+    gathered: &mut Scratch,
+    ranked: &mut Scratch,
+) -> Answer
     requires { ⌜ vec-len (now book .buys) ≤ 128 ⌝ ∗ ⌜ vec-len (now book .sells) ≤ 128 ⌝ ∗ ⌜ Few (joined (standing-of (now book)) order .buys) ⌝ ∗ ⌜ Few (joined (standing-of (now book)) order .sells) ⌝ }
     ensures after { λ _. ⌜ now (book .exit) ≡ emptied (now (book .entry)) ⌝ }
     ensures value { λ r. ⌜ r ≡ answer-of (standing-of (now (book .entry))) order reference ⌝ }
@@ -52,7 +64,13 @@ pub fn ask(book: &mut Book, order: Order, reference: u32, gathered: &mut Scratch
 {
     let guard = WhatIf::new(book, order);
     guard.gather(gathered);
-    reply_for(gathered.buys.as_slice(), gathered.sells.as_slice(), order, reference, ranked)
+    reply_for(
+        gathered.buys.as_slice(),
+        gathered.sells.as_slice(),
+        order,
+        reference,
+        ranked,
+    )
 }
 
 // The same question, with the trades that the call would make: they are the first lines of the tape, whose further places stay.
@@ -72,5 +90,11 @@ pub fn preview(
 {
     let guard = WhatIf::new(book, order);
     guard.gather(gathered);
-    strike_orders(gathered.buys.as_slice(), gathered.sells.as_slice(), reference, tape, ranked)
+    strike_orders(
+        gathered.buys.as_slice(),
+        gathered.sells.as_slice(),
+        reference,
+        tape,
+        ranked,
+    )
 }

@@ -72,7 +72,13 @@ pub fn strike(book: &mut Book, reference: u32, tape: &mut [Trade], ranked: &mut 
     ensures capacity { λ _. ⌜ ((x : Side) → cap-of x (now (book .exit)) ≡ cap-of x (now (book .entry))) ⌝ }
     ensures law_of_price { λ r. ⌜ Law-of-price (standing-of (now (book .entry))) reference (r .outcome .price) ⌝ }
 {
-    let struck = strike_orders(book.buys.as_slice(), book.sells.as_slice(), reference, tape, ranked);
+    let struck = strike_orders(
+        book.buys.as_slice(),
+        book.sells.as_slice(),
+        reference,
+        tape,
+        ranked,
+    );
     if struck.outcome.price.is_some() {
         book.settle_by(&tape[..struck.lines]);
     }

@@ -90,9 +90,9 @@ module _ (x : Side) (p : ℕ) where
   side-ahead v o q os h m n r k =
       ⊎-elim
       (λ f.
-        let e = front x p o q (not-below o q os r) f in
-        share-ahead v o q (ready x p os) (ready-apart os h)
-        (outranks-earlier (ranks-before x) (side-ranks x) o q (kept-by (can-trade x p) os) (in-kept (can-trade x p) os o m e) (in-kept (can-trade x p) os q n f) (⊎-elim (λ t. inl t) (λ t. inr (t .0, earlier-kept (can-trade x p) o q os e f (t .1))) r)) k)
+      let e = front x p o q (not-below o q os r) f in
+      share-ahead v o q (ready x p os) (ready-apart os h)
+      (outranks-earlier (ranks-before x) (side-ranks x) o q (kept-by (can-trade x p) os) (in-kept (can-trade x p) os o m e) (in-kept (can-trade x p) os q n f) (⊎-elim (λ t. inl t) (λ t. inr (t .0, earlier-kept (can-trade x p) o q os e f (t .1))) r)) k)
       (λ f. absurd (omega (arith, side-out v q os h n f))) (cases-bool (can-trade x p q))
 
   -- of one that is not filled whole, more than the volume is open at every price at which it can trade

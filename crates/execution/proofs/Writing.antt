@@ -83,7 +83,6 @@ pub write-all : (price : ℕ) (bs ss : List Order) (tape : List Trade) (i j n : 
 write-all price bs ss tape i j n h =
     ap (λ ts. take n tape ++ map (line price) ts) (pairs-none (drop i bs) (drop j ss) (⊎-elim (λ k. inl (drop-all i bs k)) (λ k. inr (drop-all j ss k)) h)) ∙ append-nil (take n tape)
 
-
 -- ---- the whole tape
 
 pub written-is : (before after ls : List Trade) (n : ℕ) → take n after ≡ ls → drop n after ≡ drop n before → n ≤ length after → (n ≡ length ls) × (after ≡ written ls before)

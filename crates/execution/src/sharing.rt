@@ -21,7 +21,11 @@ use words::sides::Side;
 fn part_under(number: u16, order: Order) -> u32
     ensures { λ r. ⌜ r ≡ open-of number (order ∷ []) ⌝ }
 {
-    if order.number == number { order.quantity } else { 0 }
+    if order.number == number {
+        order.quantity
+    } else {
+        0
+    }
 }
 
 // What is open under a number.
@@ -47,7 +51,14 @@ fn take_share(ranked: &mut [Order], volume: u32, number: u16) -> u32
 }
 
 // The same of those of a side that can trade at the price.
-fn share_on(side: Side, orders: &[Order], price: u32, volume: u32, number: u16, out: &mut Vec<Order>) -> u32
+fn share_on(
+    side: Side,
+    orders: &[Order],
+    price: u32,
+    volume: u32,
+    number: u16,
+    out: &mut Vec<Order>,
+) -> u32
     requires { ⌜ length (now orders) ≤ vec-cap (now out) ⌝ ∗ ⌜ open-at side price (now orders) < 2 ^ 32 ⌝ }
     ensures value { λ r. ⌜ r ≡ share number volume (ready side price (now (orders .entry))) ⌝ }
     ensures capacity { λ _. ⌜ vec-cap (now (out .exit)) ≡ vec-cap (now (out .entry)) ⌝ }
@@ -57,7 +68,14 @@ fn share_on(side: Side, orders: &[Order], price: u32, volume: u32, number: u16, 
 }
 
 // The shares that the order with that number gets when the book is executed at the price.
-pub fn shares(side: Side, buys: &[Order], sells: &[Order], price: u32, number: u16, ranked: &mut Scratch) -> u32
+pub fn shares(
+    side: Side,
+    buys: &[Order],
+    sells: &[Order],
+    price: u32,
+    number: u16,
+    ranked: &mut Scratch,
+) -> u32
     requires { ⌜ Few (now buys) ⌝ ∗ ⌜ Few (now sells) ⌝ }
     ensures { λ r. ⌜ r ≡ traded side number (executed (sides (now (buys .entry)) (now (sells .entry))) price) ⌝ }
 {

@@ -29,7 +29,12 @@ pub(crate) fn price_in(terms: Terms) -> u32
 fn put(auction: &mut Auction, order: Order) -> Option<Refusal>
     ensures { λ r. ⌜ (view (now (auction .exit)), r) ≡ put-step (view (now (auction .entry))) order ⌝ }
 {
-    match auction.enter(order.side, order.terms.kind(), price_in(order.terms), order.quantity) {
+    match auction.enter(
+        order.side,
+        order.terms.kind(),
+        price_in(order.terms),
+        order.quantity,
+    ) {
         Ok(_) => None,
         Err(why) => Some(why),
     }

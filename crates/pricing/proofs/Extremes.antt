@@ -34,4 +34,3 @@ highest-over p (q ∷ qs) = omega (arith, highest-over (max p q) qs)
 pub lowest-under : (p : ℕ) (ps : List ℕ) → lowest-with p ps ≤ p
 lowest-under p [] = omega arith
 lowest-under p (q ∷ qs) = omega (arith, lowest-under (min p q) qs)
-

@@ -321,7 +321,6 @@ none-trades b reference e q = by (matched b q)
     by (inl h) = omega (arith, h .2, limit-none (h .0) (h .1))
     by (inr h) = anywhere (limits b) limit-none (facts .0) h
 
-
 -- ---- the law
 
 -- the size of the surplus

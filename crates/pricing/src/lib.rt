@@ -1,4 +1,4 @@
 // The price of a call auction: demand and supply, the candidates, and the price that is chosen of them.
 pub mod demands;
-pub mod passes;
 pub mod outcomes;
+pub mod passes;

@@ -44,7 +44,11 @@ fn better_by(buys: &[Order], sells: &[Order], order: Order, best: Offer) -> Offe
     ensures { λ r. ⌜ r ≡ best-by (sides (now (buys .entry)) (now (sells .entry))) best (order .terms) ⌝ }
 {
     match order.terms {
-        Terms::Limit(limit) => better_of(best, open_at(Side::Buy, buys, limit), open_at(Side::Sell, sells, limit)),
+        Terms::Limit(limit) => better_of(
+            best,
+            open_at(Side::Buy, buys, limit),
+            open_at(Side::Sell, sells, limit),
+        ),
         Terms::Market => best,
         Terms::MarketToLimit => best,
     }

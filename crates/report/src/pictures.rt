@@ -59,7 +59,9 @@ fn added(asked: Option<Order>, side: Side, price: u32) -> u32 {
 
 // Demand or supply at a price, the asked order with it.
 fn open_with(auction: &Auction, asked: Option<Order>, side: Side, price: u32) -> u32 {
-    auction.open_at(side, price).saturating_add(added(asked, side, price))
+    auction
+        .open_at(side, price)
+        .saturating_add(added(asked, side, price))
 }
 
 // The largest demand or supply at any of the prices.
@@ -92,7 +94,14 @@ fn write_repeated<W: fmt::Write>(out: &mut W, mark: &str, times: u32) -> fmt::Re
     Ok(())
 }
 
-fn write_row<W: fmt::Write>(out: &mut W, price: u32, demand: u32, supply: u32, unit: u32, found: bool) -> fmt::Result {
+fn write_row<W: fmt::Write>(
+    out: &mut W,
+    price: u32,
+    demand: u32,
+    supply: u32,
+    unit: u32,
+    found: bool,
+) -> fmt::Result {
     let left = marks(demand, unit);
     let right = marks(supply, unit);
     write_repeated(out, " ", WIDTH - left)?;
@@ -120,8 +129,14 @@ pub(crate) fn write_picture<W: fmt::Write>(
     }
     let most = largest(auction, asked, prices);
     let unit = (most.saturating_sub(1) / WIDTH) + 1;
-    writeln!(out, "Demand and supply at each limit price (a mark is {unit} shares)")?;
-    writeln!(out, "                             demand     price     supply")?;
+    writeln!(
+        out,
+        "Demand and supply at each limit price (a mark is {unit} shares)"
+    )?;
+    writeln!(
+        out,
+        "                             demand     price     supply"
+    )?;
     for price in prices {
         let demand = open_with(auction, asked, Side::Buy, *price);
         let supply = open_with(auction, asked, Side::Sell, *price);

@@ -102,7 +102,12 @@ fn blank_tape(heap: Global) -> Result<Vec<Trade>, AllocError> {
 }
 
 // The book without a question: what its call gives.
-fn write_call(heap: Global, out: &mut String, auction: &mut Auction, study: &Study) -> Result<(), Trouble> {
+fn write_call(
+    heap: Global,
+    out: &mut String,
+    auction: &mut Auction,
+    study: &Study,
+) -> Result<(), Trouble> {
     let orders = study.orders.as_slice();
     let mut tape = blank_tape(heap)?;
     let found = auction.outcome().price;
@@ -119,7 +124,13 @@ fn write_call(heap: Global, out: &mut String, auction: &mut Auction, study: &Stu
 }
 
 // One question: what the call gives with the asked order in it.
-fn write_question(heap: Global, out: &mut String, auction: &mut Auction, study: &Study, asked: Order) -> Result<(), Trouble> {
+fn write_question(
+    heap: Global,
+    out: &mut String,
+    auction: &mut Auction,
+    study: &Study,
+    asked: Order,
+) -> Result<(), Trouble> {
     let orders = study.orders.as_slice();
     let mut tape = blank_tape(heap)?;
     let without = auction.outcome();
@@ -145,7 +156,12 @@ fn write_question(heap: Global, out: &mut String, auction: &mut Auction, study: 
     Ok(())
 }
 
-fn write_questions(heap: Global, out: &mut String, auction: &mut Auction, study: &Study) -> Result<(), Trouble> {
+fn write_questions(
+    heap: Global,
+    out: &mut String,
+    auction: &mut Auction,
+    study: &Study,
+) -> Result<(), Trouble> {
     for (i, asked) in study.asks.as_slice().iter().enumerate() {
         let number = i.saturating_add(1);
         write!(out, "\nQuestion {number}: ")?;
@@ -157,7 +173,12 @@ fn write_questions(heap: Global, out: &mut String, auction: &mut Auction, study:
 }
 
 // The whole answer to a study that was read.
-fn write_study(heap: Global, out: &mut String, auction: &mut Auction, study: &Study) -> Result<(), Trouble> {
+fn write_study(
+    heap: Global,
+    out: &mut String,
+    auction: &mut Auction,
+    study: &Study,
+) -> Result<(), Trouble> {
     let reference = Leva(study.reference);
     writeln!(out, "The book at reference price {reference}\n")?;
     write_orders(out, study.orders.as_slice())?;

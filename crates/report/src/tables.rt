@@ -84,7 +84,11 @@ fn write_signed<W: fmt::Write>(out: &mut W, number: i64) -> fmt::Result {
 }
 
 // What a call gives, as one line of a table.
-pub(crate) fn write_outcome<W: fmt::Write>(out: &mut W, label: &str, outcome: Outcome) -> fmt::Result {
+pub(crate) fn write_outcome<W: fmt::Write>(
+    out: &mut W,
+    label: &str,
+    outcome: Outcome,
+) -> fmt::Result {
     write!(out, "  {label:<12}")?;
     match outcome.price {
         Some(price) => write_price(out, price)?,
@@ -109,11 +113,20 @@ pub(crate) fn write_sentence<W: fmt::Write>(out: &mut W, outcome: Outcome) -> fm
     let volume = outcome.volume;
     let more = outcome.surplus.unsigned_abs();
     if outcome.surplus > 0 {
-        writeln!(out, "{volume} shares trade at {price}; {more} more are wanted there than offered.")
+        writeln!(
+            out,
+            "{volume} shares trade at {price}; {more} more are wanted there than offered."
+        )
     } else if outcome.surplus < 0 {
-        writeln!(out, "{volume} shares trade at {price}; {more} more are offered there than wanted.")
+        writeln!(
+            out,
+            "{volume} shares trade at {price}; {more} more are offered there than wanted."
+        )
     } else {
-        writeln!(out, "{volume} shares trade at {price}; as many are wanted there as offered.")
+        writeln!(
+            out,
+            "{volume} shares trade at {price}; as many are wanted there as offered."
+        )
     }
 }
 
@@ -145,8 +158,16 @@ fn write_left<W: fmt::Write>(out: &mut W, order: Order, lines: &[Trade]) -> fmt:
 }
 
 // What stays in the book after the trades.
-pub(crate) fn write_rest<W: fmt::Write>(out: &mut W, orders: &[Order], asked: Option<Order>, lines: &[Trade]) -> fmt::Result {
-    writeln!(out, "What stays in the book\n number  side       open  terms")?;
+pub(crate) fn write_rest<W: fmt::Write>(
+    out: &mut W,
+    orders: &[Order],
+    asked: Option<Order>,
+    lines: &[Trade],
+) -> fmt::Result {
+    writeln!(
+        out,
+        "What stays in the book\n number  side       open  terms"
+    )?;
     for order in orders {
         write_left(out, *order, lines)?;
     }
@@ -157,13 +178,20 @@ pub(crate) fn write_rest<W: fmt::Write>(out: &mut W, orders: &[Order], asked: Op
 }
 
 // How many shares the asked order gets, and at what price.
-pub(crate) fn write_shares<W: fmt::Write>(out: &mut W, asked: Order, answer: Answer) -> fmt::Result {
+pub(crate) fn write_shares<W: fmt::Write>(
+    out: &mut W,
+    asked: Order,
+    answer: Answer,
+) -> fmt::Result {
     let shares = answer.shares;
     let quantity = asked.quantity;
     match answer.outcome.price {
         Some(price) if shares > 0 => {
             let price = Leva(price);
-            writeln!(out, "The asked order gets {shares} of its {quantity} shares, at {price}.")
+            writeln!(
+                out,
+                "The asked order gets {shares} of its {quantity} shares, at {price}."
+            )
         }
         _ => writeln!(out, "The asked order gets none of its {quantity} shares."),
     }

@@ -42,7 +42,13 @@ pub enum MakeError {
 }
 
 // The order that a call brings, of condition none, unless something is wrong with it by itself.
-fn order_with(number: u16, side: Side, kind: Kind, price: u32, quantity: u32) -> Result<Order, Refusal>
+fn order_with(
+    number: u16,
+    side: Side,
+    kind: Kind,
+    price: u32,
+    quantity: u32,
+) -> Result<Order, Refusal>
     ensures value { λ r. ⌜ r ≡ order-by (order-of number side kind price quantity) (first-due (order-rows kind price quantity [])) ⌝ }
     ensures fit { λ r. ⌜ made r (λ o. (o ≡ order-of number side kind price quantity) × (quantity ≤ 1000000) × (first-due (order-rows kind price quantity []) ≡ None)) ⌝ }
 {
@@ -86,7 +92,11 @@ impl Auction {
         ensures value { λ r. ⌜ r ≡ outcome-of (view (now (self .entry)) .sides) (view (now (self .entry)) .reference) ⌝ }
         ensures law_of_price { λ r. ⌜ Law-of-price (view (now (self .entry)) .sides) (view (now (self .entry)) .reference) (r .price) ⌝ }
     {
-        find_price(self.book.buys.as_slice(), self.book.sells.as_slice(), self.reference)
+        find_price(
+            self.book.buys.as_slice(),
+            self.book.sells.as_slice(),
+            self.reference,
+        )
     }
 }
 
@@ -117,7 +127,13 @@ impl Auction {
     }
 
     // The order stands, last in time, and replies with its number.
-    pub fn enter(&mut self, side: Side, kind: Kind, price: u32, quantity: u32) -> Result<u16, Refusal>
+    pub fn enter(
+        &mut self,
+        side: Side,
+        kind: Kind,
+        price: u32,
+        quantity: u32,
+    ) -> Result<u16, Refusal>
         ensures { λ r. ⌜ (view (now (self .exit)), r) ≡ enter-step (view (now (self .entry))) side kind price quantity ⌝ }
     {
         let order = order_with(self.last + 1, side, kind, price, quantity)?;
@@ -133,7 +149,13 @@ impl Auction {
     }
 
     // What the call would give with one more order in it, and how many shares that order would get. Nothing changes.
-    pub fn ask(&mut self, side: Side, kind: Kind, price: u32, quantity: u32) -> Result<Answer, Refusal>
+    pub fn ask(
+        &mut self,
+        side: Side,
+        kind: Kind,
+        price: u32,
+        quantity: u32,
+    ) -> Result<Answer, Refusal>
         ensures same { λ _. ⌜ now (self .exit) .book ≡ now (self .entry) .book ⌝ }
         ensures state { λ _. ⌜ view (now (self .exit)) ≡ view (now (self .entry)) ⌝ }
         ensures reply { λ r. ⌜ r ≡ ask-reply (view (now (self .entry))) side kind price quantity ⌝ }

@@ -1,17 +1,13 @@
 use mathlib.Core.Path.{_≡_, sym, ap, subst, _∙_}
-use Prim.Native.Nat.{_≤_}
 use native.Mathlib.Omega.{arith}
-use Rattle.std.specs.Options.{isSome}
-use Rattle.std.specs.Of.Vec.{vec-items, vec-cap}
 use Rattle.std.specs.declared.result.Result.the-variants.{Ok}
 use Rattle.execution.specs.Execution.{written}
 use Rattle.book.specs.Books.{standing-of, joined}
 use Rattle.book.specs.Striking.{trades-of, struck-of}
 use Rattle.auction.specs.Calls.{preview-by, tape-row}
-use Rattle.auction.specs.Sound.{Sound}
 use Rattle.auction.specs.States.{view}
 use Rattle.auction.proofs.Dues.{tape-long, order-first}
-use Rattle.auction.proofs.Sounds.{few-joined, empty-again}
+use Rattle.auction.proofs.Sounds.{few-joined, empty-again, Kept, kept}
 use Rattle.auction.proofs.held.Auction.preview.Needs as need
 
 pub preview-requires : need.preview-requires
@@ -25,14 +21,7 @@ preview-requires c κs =
 pub ghost-self : need.ghost-self
 ghost-self c =
     let a = c .args .self .now in
-    let same = sym (c .preview .ensures .after ∙ empty-again (a .book) (a .clear)) in (
-      subst (λ b. Sound (a .last) (vec-items (b .buys))) same (a .«buys_sound»),
-      (subst (λ b. Sound (a .last) (vec-items (b .sells))) same (a .«sells_sound»),
-      (subst (λ b. 128 ≤ vec-cap (b .buys)) same (a .«buys_room»),
-      (subst (λ b. 128 ≤ vec-cap (b .sells)) same (a .«sells_room»),
-      (ap isSome (ap (λ b. b .asked) (sym same)) ∙ a .clear,
-      (a .numbers, tt))))),
-    )
+    subst (Kept (a .last)) (sym (c .preview .ensures .after ∙ empty-again (a .book) (a .clear))) (kept a)
 
 pub returns : need.returns
 returns c =

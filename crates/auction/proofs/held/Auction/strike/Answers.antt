@@ -1,14 +1,11 @@
-use mathlib.Core.Path.{_≡_, sym, ap, subst, _∙_}
+use mathlib.Core.Path.{_≡_, sym, ap, _∙_}
 use native.Mathlib.Omega.{arith}
-use Rattle.std.specs.Options.{isSome}
 use Rattle.std.specs.declared.result.Result.the-variants.{Ok}
-use Rattle.words.specs.declared.sides.Side.the-variants.{Buy, Sell}
 use Rattle.book.specs.Books.{standing-of}
 use Rattle.auction.specs.Calls.{strike-by}
-use Rattle.auction.specs.Sound.{Sound}
 use Rattle.auction.specs.States.{view}
 use Rattle.auction.proofs.Dues.{tape-long}
-use Rattle.auction.proofs.Sounds.{few, sound-struck}
+use Rattle.auction.proofs.Sounds.{few, sound-struck, kept-by-sound}
 use Rattle.auction.proofs.Trades.{call-law}
 use Rattle.auction.proofs.held.Auction.strike.Needs as need
 
@@ -21,14 +18,7 @@ pub ghost-self : need.ghost-self
 ghost-self c =
     let a = c .args .self .now in
     let both = sound-struck (a .last) (a .reference) (standing-of (a .book)) (a .«buys_sound») (a .«sells_sound») in
-    let after = c .strike .ensures .standing in (
-      subst (λ t. Sound (a .last) (t .buys)) (sym after) (both .0),
-      (subst (λ t. Sound (a .last) (t .sells)) (sym after) (both .1),
-      (omega (arith, c .strike .ensures .capacity Buy, a .«buys_room»),
-      (omega (arith, c .strike .ensures .capacity Sell, a .«sells_room»),
-      (ap isSome (c .strike .ensures .asked) ∙ a .clear,
-      (a .numbers, tt))))),
-    )
+    kept-by-sound (a .last) a (c .strike .last .book) _ (c .strike .ensures .standing) (both .0) (both .1) (c .strike .ensures .capacity) (c .strike .ensures .asked) (a .numbers)
 
 pub returns : need.returns
 returns c =
