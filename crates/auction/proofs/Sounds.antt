@@ -17,7 +17,7 @@ use Rattle.words.specs.declared.sides.Side.the-variants.{Buy, Sell}
 use Rattle.words.specs.declared.tape.Trade.{Trade}
 use Rattle.words.specs.Orders.{no-order}
 use Rattle.ranking.specs.Lists.{In, total}
-use Rattle.ranking.proofs.Lists.{total-le, total-map, total-kept}
+use Rattle.ranking.proofs.Lists.{total-le, total-map, total-kept, part-le}
 use Rattle.pricing.specs.Passes.{Few}
 use Rattle.pricing.specs.Price.{auction-price}
 use Rattle.pricing.specs.Sides.{Sides}
@@ -103,10 +103,6 @@ empty-again b e = ap (placed b) (none-there (b .asked) e)
 
 -- ---- a side is settled
 
-under : (b : Bool) (n : ℕ) → cond b n 0 ≤ n
-under true n = omega arith
-under false n = omega arith
-
 kept-short : {X : Type 0} (t : X → Bool) (xs : List X) → length (kept-by t xs) ≤ length xs
 kept-short t [] = omega arith
 kept-short t (x ∷ xs) =
@@ -119,7 +115,7 @@ settled-count x ls os n =
       arith,
       total-kept f stands (map (left-by x ls) os),
       total-map (λ o. cond (stands o) (f o) 0) (left-by x ls) os,
-      total-le (λ o. cond (stands (left-by x ls o)) (f o) 0) f os (λ o m. under (stands (left-by x ls o)) (f o)),
+      total-le (λ o. cond (stands (left-by x ls o)) (f o) 0) f os (λ o m. part-le (stands (left-by x ls o)) (f o)),
     )
 
 pub sound-settled : (last : ℕ) (x : Side) (ls : List Trade) (os : List Order) → Sound last os → Sound last (settled x ls os)

@@ -5,9 +5,9 @@ use Prim.Native.Nat.{ℕ}
 use Rattle.std.specs.declared.option.Option.{Option}
 use Rattle.std.specs.declared.option.Option.the-variants.{Some, None}
 use Rattle.pricing.specs.Laws.{Law-of-price}
-use Rattle.pricing.specs.Outcomes.{outcome-at}
 use Rattle.pricing.specs.Price.{auction-price}
 use Rattle.pricing.specs.Sides.{Sides}
+use Rattle.pricing.proofs.Prices.{price-replied}
 use Rattle.execution.proofs.Executes.{execution}
 use Rattle.book.specs.declared.striking.Struck.{Struck}
 use Rattle.book.specs.Striking.{trades-at, trades-of, struck-of}
@@ -18,12 +18,8 @@ trades-law : (last : ℕ) (s : Sides) → Sound last (s .buys) → Sound last (s
 trades-law last s h k None = refl
 trades-law last s h k (Some p) = execution s p (h .2) (k .2)
 
-price-is : (s : Sides) (x : Option ℕ) → outcome-at s x .price ≡ x
-price-is s None = refl
-price-is s (Some p) = refl
-
 pub call-law : (last : ℕ) (s : Sides) (reference : ℕ) (r : Struck) → Sound last (s .buys) → Sound last (s .sells) → r ≡ struck-of s reference
     → Law-of-price s reference (r .outcome .price) → Law-of-call s reference (r .outcome .price) (trades-of s reference)
 call-law last s reference r h k e law =
-    let found : auction-price s reference ≡ r .outcome .price = sym (ap (λ z. z .outcome .price) e ∙ price-is s (auction-price s reference)) in
+    let found : auction-price s reference ≡ r .outcome .price = sym (ap (λ z. z .outcome .price) e ∙ price-replied s (auction-price s reference)) in
     record { price-law = law; trades-law = subst (λ x. Law-of-trades s x (trades-of s reference)) found (trades-law last s h k (auction-price s reference)) }

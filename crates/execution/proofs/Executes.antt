@@ -14,13 +14,13 @@ use Rattle.words.specs.Orders.{lowered}
 use Rattle.words.specs.Ranks.{ranks-before}
 use Rattle.ranking.specs.Lists.{In, total}
 use Rattle.ranking.specs.Ranking.{Outranks}
-use Rattle.ranking.proofs.Lists.{total-map, map-in, all-in, all-from}
+use Rattle.ranking.proofs.Lists.{total-map, map-in, in-map, all-in, all-from}
 use Rattle.pricing.specs.Sides.{Sides, can-trade, demand, supply, volume}
 use Rattle.execution.specs.Execution.{ready, Pair, walk, pairs, line, executed}
 use Rattle.execution.specs.Settling.{named-by, traded, after-trades}
 use Rattle.execution.specs.Laws.{standing, Apart, Trader, Remainder, Executed, Law-of-execution}
 use Rattle.execution.proofs.Sided.{same-order, ready-total, ready-short, ready-had, side-within, side-ahead}
-use Rattle.execution.proofs.Settled.{in-map, settled-left, settled-same, settled-from}
+use Rattle.execution.proofs.Settled.{settled-left, settled-same, settled-from}
 use Rattle.execution.specs.Shares.{share}
 use Rattle.execution.proofs.Walks.{held, paid, flip, walk-volume, walk-share, walk-flip, walk-names, walk-short}
 

@@ -1,7 +1,6 @@
 -- What stands after some lines. Assumes nothing.
 use mathlib.Core.Path.{_≡_, refl, sym, ap, subst, _∙_}
-use mathlib.Core.List.{List, [], _∷_, map}
-use mathlib.Core.Logic.{inl, inr}
+use mathlib.Core.List.{List, map}
 use Prim.Native.Nat.{ℕ, _-_, _<_}
 use native.Mathlib.Omega.{arith}
 use lib.Dec.{ltb}
@@ -11,13 +10,8 @@ use Rattle.words.specs.declared.sides.Side.{Side}
 use Rattle.words.specs.declared.tape.Trade.{Trade}
 use Rattle.words.specs.Orders.{resized, lowered}
 use Rattle.ranking.specs.Lists.{In}
-use Rattle.ranking.proofs.Lists.{in-kept, kept-in, map-in}
+use Rattle.ranking.proofs.Lists.{in-kept, kept-in, map-in, in-map}
 use Rattle.execution.specs.Settling.{traded, left-by, stands, settled}
-
-pub in-map : {X Y : Type 0} (f : X → Y) (xs : List X) (x : X) → In x xs → In (f x) (map f xs)
-in-map f [] x m = absurd m
-in-map f (y ∷ ys) x (inl e) = inl (ap f e)
-in-map f (y ∷ ys) x (inr m) = inr (in-map f ys x m)
 
 module _ (x : Side) (ls : List Trade) (os : List Order) where
   pub settled-left : (o : Order) → In o os → traded x (o .number) ls < o .quantity → In (left-by x ls o) (settled x ls os)

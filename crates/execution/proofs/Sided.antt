@@ -14,7 +14,7 @@ use Rattle.words.specs.declared.sides.Side.{Side}
 use Rattle.words.specs.Ranks.{ranks-before}
 use Rattle.ranking.specs.Lists.{In, total}
 use Rattle.ranking.specs.Ranking.{Outranks}
-use Rattle.ranking.proofs.Lists.{in-kept, kept-in, total-le, total-lt, total-kept, earlier-kept}
+use Rattle.ranking.proofs.Lists.{in-kept, kept-in, total-le, total-lt, total-kept, earlier-kept, part-le}
 use Rattle.ranking.proofs.Placing.{sorted}
 use Rattle.ranking.proofs.Ranked.{sort-total, sort-takes, sort-had, outranks-earlier}
 use Rattle.pricing.specs.Sides.{can-trade, open-at}
@@ -40,10 +40,6 @@ same-order o q (y ∷ ys) h (inr m) (inl j) e =
     absurd (grind arith)
 same-order o q (y ∷ ys) h (inr m) (inr n) e = same-order o q ys (λ k. omega (arith, h k)) m n e
 
-cond-under : (b : Bool) (n : ℕ) → cond b n 0 ≤ n
-cond-under true n = omega arith
-cond-under false n = omega arith
-
 ones : {X : Type 0} (xs : List X) → length xs ≡ total (λ _. 1) xs
 ones [] = refl
 ones (x ∷ xs) = omega (arith, ones xs)
@@ -53,7 +49,7 @@ module _ (x : Side) (p : ℕ) where
   ready-total f os = sort-total (ranks-before x) f (kept-by (can-trade x p) os) ∙ total-kept f (can-trade x p) os
 
   ready-le : (f : Order → ℕ) (os : List Order) → total f (ready x p os) ≤ total f os
-  ready-le f os = omega (arith, ready-total f os, total-le (λ o. cond (can-trade x p o) (f o) 0) f os (λ o m. cond-under (can-trade x p o) (f o)))
+  ready-le f os = omega (arith, ready-total f os, total-le (λ o. cond (can-trade x p o) (f o) 0) f os (λ o m. part-le (can-trade x p o) (f o)))
 
   pub ready-short : (os : List Order) → length (ready x p os) ≤ length os
   ready-short os = omega (arith, ones (ready x p os), ones os, ready-le (λ _. 1) os)
@@ -75,7 +71,7 @@ module _ (x : Side) (p : ℕ) where
       let f : Order → ℕ = λ y. cond (can-trade x p y) (cond (eqb (y .number) n) 1 0) 0 in
       let g : Order → ℕ = λ y. cond (eqb (y .number) n) 1 0 in
       let less : f o < g o = grind arith in
-      absent n v (ready x p os) (omega (arith, ready-total g os, h n, total-lt f g os (λ y k. cond-under (can-trade x p y) (g y)) o m less))
+      absent n v (ready x p os) (omega (arith, ready-total g os, h n, total-lt f g os (λ y k. part-le (can-trade x p y) (g y)) o m less))
 
   pub side-within : (v : ℕ) (o : Order) (os : List Order) → Apart os → In o os → share (o .number) v (ready x p os) ≤ o .quantity
   side-within v o os h m =

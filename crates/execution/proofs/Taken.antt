@@ -9,7 +9,7 @@ use Rattle.words.specs.declared.orders.Order.{Order}
 use Rattle.words.specs.Orders.{lowered}
 use Rattle.ranking.specs.Lists.{total}
 use Rattle.ranking.specs.Walks.{walked}
-use Rattle.ranking.proofs.Lists.{total-le}
+use Rattle.ranking.proofs.Lists.{total-le, part-le}
 use Rattle.execution.specs.Shares.{open-of, share}
 
 abbrev pub taken : ℕ → List Order → List Order
@@ -30,9 +30,5 @@ pub taken-less : (v : ℕ) (os : List Order) → total (λ o. o .quantity) (take
 taken-less v [] = omega arith
 taken-less v (o ∷ os) = omega (arith, taken-less (v - o .quantity) os)
 
-under : (b : Bool) (n : ℕ) → cond b n 0 ≤ n
-under true n = omega arith
-under false n = omega arith
-
 pub open-under : (n : ℕ) (os : List Order) → open-of n os ≤ total (λ o. o .quantity) os
-open-under n os = total-le (λ o. cond (eqb (o .number) n) (o .quantity) 0) (λ o. o .quantity) os (λ o m. under (eqb (o .number) n) (o .quantity))
+open-under n os = total-le (λ o. cond (eqb (o .number) n) (o .quantity) 0) (λ o. o .quantity) os (λ o m. part-le (eqb (o .number) n) (o .quantity))

@@ -22,6 +22,7 @@ use Rattle.words.specs.Terms.{may-trade}
 use Rattle.ranking.specs.Lists.{In, total, each}
 use Rattle.pricing.specs.Sides.{Sides, sides, can-trade, open-at, demand, supply, volume, gap, positive, negative, even, limits, limits-of, with-limit}
 use Rattle.pricing.specs.Price.{largest, smallest, highest, lowest, highest-with, lowest-with, none, candidates, lower-end, upper-end, nearest, chosen, unlimited, price-of, auction-price}
+use Rattle.pricing.specs.Outcomes.{outcome-at}
 use Rattle.pricing.specs.Laws.{Between, Placed, Found, Law-of-price}
 use Rattle.ranking.proofs.Lists.{in-left, in-right, in-kept, kept-in, each-in, each-from, each-not, has-top, total-le}
 use Rattle.pricing.proofs.Extremes.{highest-in, lowest-in, highest-over, lowest-under}
@@ -340,3 +341,8 @@ law-of-price b reference (Some p) e =
       least-surplus = λ l m same. omega (arith, gap-is (demand b p) (supply b p), gap-is (demand b l) (supply b l), g .least l m same);
       placed = g .placed;
     }
+
+-- what is replied of a price has that price
+pub price-replied : (b : Sides) (r : Option ℕ) → outcome-at b r .price ≡ r
+price-replied b None = refl
+price-replied b (Some p) = refl

@@ -113,6 +113,11 @@ map-in f [] y m = absurd m
 map-in f (x ∷ xs) y (inl e) = (x, inl refl, e)
 map-in f (x ∷ xs) y (inr m) = let r = map-in f xs y m in (r .0, inr (r .1), r .2)
 
+pub in-map : {X Y : Type 0} (f : X → Y) (xs : List X) (x : X) → In x xs → In (f x) (map f xs)
+in-map f [] x m = absurd m
+in-map f (y ∷ ys) x (inl e) = inl (ap f e)
+in-map f (y ∷ ys) x (inr m) = inr (in-map f ys x m)
+
 pub all-in : {X : Type 0} (P : X → Type 0) (xs : List X) → All P xs → (x : X) → In x xs → P x
 all-in P [] h x m = absurd m
 all-in P (y ∷ ys) h x (inl e) = subst P (sym e) (h .0)
@@ -160,6 +165,9 @@ module _ {X : Type 0} where
 
 -- ---- a part
 
+pub part-le : (b : Bool) (n : ℕ) → cond b n 0 ≤ n
+part-le true n = omega arith
+part-le false n = omega arith
+
 pub under : (b : Bool) (n r : ℕ) → r ≡ cond b n 0 → r ≤ n
-under true n r e = omega arith
-under false n r e = omega arith
+under b n r e = omega (arith, part-le b n)
