@@ -82,15 +82,35 @@ sound-entered last os o h room new small = (
       (λ (e : o .number ≡ n). omega (arith, count-append n os o, h .3 n (omega arith), one-at-most (eqb (o .number) n)))
       (λ e. omega (arith, count-append n os o, h .2 n, not-this (o .number) n e)) (cases-eq (o .number) n),
   λ n k. omega (arith, count-append n os o, h .3 n (omega arith), not-this (o .number) n (λ e. omega arith)),
+  omega (arith, count-append 0 os o, h .4, not-this (o .number) 0 (λ e. omega arith)),
 )
 
 pub sound-later : (last : ℕ) (os : List Order) → Sound last os → Sound (last + 1) os
-sound-later last os h = (h .0, h .1, h .2, λ n k. h .3 n (omega arith))
+sound-later last os h = (h .0, h .1, h .2, λ n k. h .3 n (omega arith), h .4)
 
 pub sound-joined : (last : ℕ) (x : Side) (s : Sides) (o : Order) → Sound last (s .buys) → Sound last (s .sells) → length (standing x s) < 128 → o .number ≡ last + 1 → o .quantity ≤ 1000000
     → Sound (last + 1) (joined-on x s o .buys) × Sound (last + 1) (joined-on x s o .sells)
 sound-joined last Buy s o h k room new small = (sound-entered last (s .buys) o h room new small, sound-later last (s .sells) k)
 sound-joined last Sell s o h k room new small = (sound-later last (s .buys) h, sound-entered last (s .sells) o k room new small)
+
+-- ---- with an asked order, whose number is 0, no number stands twice either
+
+apart-more : (last : ℕ) (os : List Order) (o : Order) → Sound last os → o .number ≡ 0 → Apart (os ++ o ∷ [])
+apart-more last os o h e n =
+    ⊎-elim (λ (z : o .number ≡ n). omega (arith, count-append n os o, ap (λ k. count k os) (sym z ∙ e), h .4, one-at-most (eqb (o .number) n)))
+    (λ z. omega (arith, count-append n os o, h .2 n, not-this (o .number) n z)) (cases-eq (o .number) n)
+
+pub apart-joined : (last : ℕ) (x : Side) (s : Sides) (o : Order) → Sound last (s .buys) → Sound last (s .sells) → o .number ≡ 0 → Apart (joined-on x s o .buys) × Apart (joined-on x s o .sells)
+apart-joined last Buy s o h k e = (apart-more last (s .buys) o h e, k .2)
+apart-joined last Sell s o h k e = (h .2, apart-more last (s .sells) o k e)
+
+in-last : {X : Type 0} (x : X) (xs : List X) → In x (xs ++ x ∷ [])
+in-last x [] = inl refl
+in-last x (y ∷ ys) = inr (in-last x ys)
+
+pub in-joined : (x : Side) (s : Sides) (o : Order) → In o (standing x (joined-on x s o))
+in-joined Buy s o = in-last o (s .buys)
+in-joined Sell s o = in-last o (s .sells)
 
 -- ---- the place of the asked order is empty
 
@@ -124,6 +144,7 @@ sound-settled last x ls os h = (
   λ o m. let r = settled-from x ls os o m in omega (arith, h .1 (r .0) (r .1), ap (λ z. z .quantity) (r .2)),
   λ n. omega (arith, h .2 n, settled-count x ls os n),
   λ n k. omega (arith, h .3 n k, settled-count x ls os n),
+  omega (arith, h .4, settled-count x ls os 0),
 )
 
 pub sound-struck : (last reference : ℕ) (s : Sides) → Sound last (s .buys) → Sound last (s .sells) → Sound last (after-strike s reference .buys) × Sound last (after-strike s reference .sells)

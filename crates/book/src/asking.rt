@@ -86,7 +86,7 @@ pub fn preview(
     ensures after { λ _. ⌜ now (book .exit) ≡ emptied (now (book .entry)) ⌝ }
     ensures value { λ r. ⌜ r ≡ struck-of (joined (standing-of (now (book .entry))) order) reference ⌝ }
     ensures lines { λ _. ⌜ now (tape .exit) ≡ written (trades-of (joined (standing-of (now (book .entry))) order) reference) (now (tape .entry)) ⌝ }
-    ensures within { λ r. ⌜ r .lines ≤ length (now (tape .entry)) ⌝ }
+    ensures law_of_price { λ r. ⌜ Law-of-price (joined (standing-of (now (book .entry))) order) reference (r .outcome .price) ⌝ }
 {
     let guard = WhatIf::new(book, order);
     guard.gather(gathered);

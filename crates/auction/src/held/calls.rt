@@ -5,10 +5,9 @@ ghost use Prim.Native.Nat.{_≤_};
 ghost use Rattle.std.specs.declared.option.Option.the-variants.{None};
 ghost use Rattle.std.specs.Vec.{made};
 ghost use Rattle.auction.specs.Calls.{Made, order-of, order-rows, order-by, enter-step, ask-reply, preview-reply, strike-step};
-ghost use Rattle.auction.specs.Laws.{Law-of-call, Refuses-by-number};
+ghost use Rattle.auction.specs.Laws.{Law-of-answer, Law-of-call, Refuses-by-number};
 ghost use Rattle.auction.specs.States.{view};
 ghost use Rattle.book.specs.Books.{joined};
-ghost use Rattle.book.specs.Striking.{trades-of};
 ghost use Rattle.execution.specs.Laws.{standing};
 ghost use Rattle.pricing.specs.Laws.{Law-of-price};
 ghost use Rattle.pricing.specs.Outcomes.{outcome-of};
@@ -159,7 +158,7 @@ impl Auction {
         ensures same { λ _. ⌜ now (self .exit) .book ≡ now (self .entry) .book ⌝ }
         ensures state { λ _. ⌜ view (now (self .exit)) ≡ view (now (self .entry)) ⌝ }
         ensures reply { λ r. ⌜ r ≡ ask-reply (view (now (self .entry))) side kind price quantity ⌝ }
-        ensures law_of_price { λ r. ⌜ made r (λ a. Law-of-price (joined (view (now (self .entry)) .sides) (order-of 0 side kind price quantity)) (view (now (self .entry)) .reference) (a .outcome .price)) ⌝ }
+        ensures law_of_answer { λ r. ⌜ made r (λ a. Law-of-answer (joined (view (now (self .entry)) .sides) (order-of 0 side kind price quantity)) (order-of 0 side kind price quantity) (view (now (self .entry)) .reference) a) ⌝ }
     {
         let order = order_with(0, side, kind, price, quantity)?;
         Ok(ask(
@@ -183,6 +182,7 @@ impl Auction {
         ensures same { λ _. ⌜ now (self .exit) .book ≡ now (self .entry) .book ⌝ }
         ensures state { λ _. ⌜ view (now (self .exit)) ≡ view (now (self .entry)) ⌝ }
         ensures reply { λ r. ⌜ (now (tape .exit), r) ≡ preview-reply (view (now (self .entry))) side kind price quantity (now (tape .entry)) ⌝ }
+        ensures law_of_call { λ r. ⌜ made r (λ k. Law-of-call (joined (view (now (self .entry)) .sides) (order-of 0 side kind price quantity)) (view (now (self .entry)) .reference) k (now (tape .exit))) ⌝ }
     {
         let order = order_with(0, side, kind, price, quantity)?;
         if tape.len() < 256 {
@@ -201,7 +201,7 @@ impl Auction {
     // Strikes the call: its trades are the first lines of the tape, which has at least 256 places, and the book is settled by them.
     pub fn strike(&mut self, tape: &mut [Trade]) -> Result<Struck, Refusal>
         ensures step { λ r. ⌜ (view (now (self .exit)), now (tape .exit), r) ≡ strike-step (view (now (self .entry))) (now (tape .entry)) ⌝ }
-        ensures law_of_call { λ r. ⌜ made r (λ k. Law-of-call (view (now (self .entry)) .sides) (view (now (self .entry)) .reference) (k .outcome .price) (trades-of (view (now (self .entry)) .sides) (view (now (self .entry)) .reference))) ⌝ }
+        ensures law_of_call { λ r. ⌜ made r (λ k. Law-of-call (view (now (self .entry)) .sides) (view (now (self .entry)) .reference) k (now (tape .exit))) ⌝ }
     {
         if tape.len() < 256 {
             return Err(Refusal::TapeShort);

@@ -1,12 +1,13 @@
 use mathlib.Core.Path.{_≡_, sym, ap, subst, _∙_}
 use native.Mathlib.Omega.{arith}
 use Rattle.std.specs.declared.result.Result.the-variants.{Ok}
-use Rattle.pricing.specs.Laws.{Law-of-price}
 use Rattle.book.specs.Asking.{answer-of}
 use Rattle.book.specs.Books.{standing-of, joined}
 use Rattle.auction.specs.Calls.{ask-by}
+use Rattle.auction.specs.Laws.{Law-of-answer}
 use Rattle.auction.specs.States.{view}
-use Rattle.auction.proofs.Sounds.{few-joined, empty-again, Kept, kept}
+use Rattle.auction.proofs.Sounds.{few-joined, apart-joined, in-joined, empty-again, Kept, kept}
+use Rattle.auction.proofs.Trades.{answer-law}
 use Rattle.auction.proofs.held.Auction.ask.Needs as need
 
 pub ask-requires : need.ask-requires
@@ -32,5 +33,8 @@ returns c =
       same = same;
       state = ap (λ b. record { reference = a .reference; last = a .last; sides = standing-of b }) same;
       reply = ap Ok (c .ask .ensures .value ∙ ap (λ o. answer-of s o (a .reference)) (fit .0)) ∙ ap (ask-by (view a) (c .args .side) (c .args .kind) (c .args .price) (c .args .quantity)) (sym (fit .2));
-      law-of-price = subst (λ o. Law-of-price (joined s o) (a .reference) (c .ask .result .outcome .price)) (fit .0) (c .ask .ensures .law-of-price);
+      law-of-answer =
+          let o = c .in-Continue-order .order in
+          let apart = apart-joined (a .last) (o .side) s o (a .«buys_sound») (a .«sells_sound») (ap (λ z. z .number) (fit .0)) in
+          subst (λ z. Law-of-answer (joined s z) z (a .reference) (c .ask .result)) (fit .0) (answer-law (joined s o) (a .reference) o (c .ask .result) (apart .0) (apart .1) (in-joined (o .side) s o) (c .ask .ensures .value) (c .ask .ensures .law-of-price));
     }

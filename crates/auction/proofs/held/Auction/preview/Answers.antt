@@ -5,9 +5,11 @@ use Rattle.execution.specs.Execution.{written}
 use Rattle.book.specs.Books.{standing-of, joined}
 use Rattle.book.specs.Striking.{trades-of, struck-of}
 use Rattle.auction.specs.Calls.{preview-by, tape-row}
+use Rattle.auction.specs.Laws.{Law-of-call}
 use Rattle.auction.specs.States.{view}
 use Rattle.auction.proofs.Dues.{tape-long, order-first}
-use Rattle.auction.proofs.Sounds.{few-joined, empty-again, Kept, kept}
+use Rattle.auction.proofs.Sounds.{few-joined, apart-joined, empty-again, Kept, kept}
+use Rattle.auction.proofs.Trades.{call-law}
 use Rattle.auction.proofs.held.Auction.preview.Needs as need
 
 pub preview-requires : need.preview-requires
@@ -35,8 +37,12 @@ returns c =
     let lines = e .lines ∙ ap (λ o. written (trades-of (joined s o) (a .reference)) tape) (fit .0) in
     let value = e .value ∙ ap (λ o. struck-of (joined s o) (a .reference)) (fit .0) in
     let nothing-due = order-first k (c .args .price) (c .args .quantity) (tape-row tape) (fit .2) ∙ tape-long tape (c .if-tape-lt256 .left) in
+    let o = c .in-Continue-order .order in
+    let apart = apart-joined (a .last) (o .side) s o (a .«buys_sound») (a .«sells_sound») (ap (λ z. z .number) (fit .0)) in
+    let three = few-joined (a .last) (o .side) s o (a .«buys_sound») (a .«sells_sound») (omega (arith, fit .1, ap (λ z. z .quantity) (fit .0))) in
     record {
       same = same;
       state = ap (λ b. record { reference = a .reference; last = a .last; sides = standing-of b }) same;
       reply = (λ i. (lines i, Ok (value i))) ∙ ap (preview-by (view a) (c .args .side) k (c .args .price) (c .args .quantity) tape) (sym nothing-due);
+      law-of-call = subst (λ z. Law-of-call (joined s z) (a .reference) (c .preview .result) (c .preview .last .tape)) (fit .0) (call-law (joined s o) (a .reference) (c .preview .result) tape (c .preview .last .tape) (apart .0) (apart .1) (three .2) (e .value) (e .lines) (e .law-of-price));
     }

@@ -27,5 +27,5 @@ returns c =
     let e = c .strike .ensures in
     record {
       step = (λ i. (record { reference = a .reference; last = a .last; sides = e .standing i }, e .lines i, Ok (e .value i))) ∙ ap (strike-by (view a) tape) (sym (tape-long tape (c .if-tape-lt256 .left)));
-      law-of-call = call-law (a .last) (standing-of (a .book)) (a .reference) (c .strike .result) (a .«buys_sound») (a .«sells_sound») (e .value) (e .law-of-price);
+      law-of-call = call-law (standing-of (a .book)) (a .reference) (c .strike .result) tape (c .strike .last .tape) (a .«buys_sound» .2) (a .«sells_sound» .2) (omega (arith, a .«buys_sound» .0, a .«sells_sound» .0)) (e .value) (e .lines) (e .law-of-price);
     }
