@@ -48,17 +48,17 @@ number-at n [] i h k = absurd (omega arith)
 number-at n (o ∷ os) zero h k = omega (arith, eqb-true _ _ (and-parts (eqb (o .number) n) (numbered-from (n + 1) os) h .0))
 number-at n (o ∷ os) (suc i) h k = omega (arith, number-at (n + 1) os i (and-parts (eqb (o .number) n) (numbered-from (n + 1) os) h .1) (omega arith))
 
-terms-fit : (t : Terms) → fit-terms t ≡ true → price-fits (kind-of t) (price-in t) ≡ true
+pub terms-fit : (t : Terms) → fit-terms t ≡ true → price-fits (kind-of t) (price-in t) ≡ true
 terms-fit (Limit l) h = h
 terms-fit Market h = refl
 terms-fit MarketToLimit h = refl
 
-terms-are : (t : Terms) → terms-for (kind-of t) (price-in t) ≡ t
+pub terms-are : (t : Terms) → terms-for (kind-of t) (price-in t) ≡ t
 terms-are (Limit l) = refl
 terms-are Market = refl
 terms-are MarketToLimit = refl
 
-condition-is : (c : Condition) → is-unconditional c ≡ true → Unconditional ≡ c
+pub condition-is : (c : Condition) → is-unconditional c ≡ true → Unconditional ≡ c
 condition-is Unconditional h = refl
 condition-is ImmediateOrCancel h = absurd (false≢true h)
 condition-is FillOrKill h = absurd (false≢true h)

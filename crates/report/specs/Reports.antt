@@ -12,5 +12,4 @@ use Rattle.report.specs.declared.reports.ReportError.the-variants as errors
 abbrev pub Answers : {A : Type 0} → Result Content Fault → Result A ReportError → Type 0
 Answers c (Ok answer) = (f : Fault) → c ≡ Err f → ⊥
 Answers c (Err (errors.Fault f)) = c ≡ Err f
-Answers c (Err (errors.Refused why)) = (f : Fault) → c ≡ Err f → ⊥
 Answers c (Err errors.NoMemory) = Unit {0}

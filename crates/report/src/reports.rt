@@ -1,6 +1,12 @@
 // The answer to a whole study.
+ghost use mathlib.Core.Path.{_≡_};
+ghost use mathlib.Core.Bool.{true};
+ghost use Rattle.std.specs.Of.Vec.{vec-len};
+ghost use Rattle.std.specs.Vec.{made};
+ghost use Rattle.inquiry.specs.Questions.{Askable};
 ghost use Rattle.report.specs.Reports.{Answers};
-ghost use Rattle.study.specs.Sound.{Sound};
+ghost use Rattle.study.specs.Bytes.{all};
+ghost use Rattle.study.specs.Sound.{Sound, fit-order, is-unnumbered};
 ghost use Rattle.study.specs.Studies.{study-of};
 ghost use Rattle.study.specs.Views.{content};
 use crate::pictures::prices_of;
@@ -14,8 +20,10 @@ use crate::tables::write_sentence;
 use crate::tables::write_shares;
 use crate::tables::write_trades;
 use auction::held::Auction;
-use auction::held::calls::MakeError;
 use inquiry::loading::load;
+use inquiry::questions::answer_to;
+use inquiry::questions::trades_of;
+use inquiry::questions::trades_with;
 use std::alloc::AllocError;
 use std::alloc::Global;
 use std::fmt;
@@ -27,49 +35,28 @@ use study::numbers::LevaDisplay;
 use study::reading::Study;
 use study::reading::read_study;
 use words::orders::Order;
-use words::refusals::Refusal;
 use words::tape::Trade;
 
 // Why a study has no answer.
 #[derive(Clone, Copy)]
 pub enum ReportError {
     Fault(Fault),
-    Refused(Refusal),
     NoMemory,
 }
 
-// Why a study that was read could not be answered.
+// There is no memory for the answer. Text is written into memory alone, so that nothing else can fail.
 #[derive(Clone, Copy)]
-enum Trouble {
-    Refused(Refusal),
-    NoMemory,
-}
+struct NoRoom;
 
-impl From<AllocError> for Trouble as TroubleFromAlloc {
-    fn from(_e: AllocError) -> Trouble {
-        Trouble::NoMemory
+impl From<AllocError> for NoRoom as NoRoomFromAlloc {
+    fn from(_e: AllocError) -> NoRoom {
+        NoRoom
     }
 }
 
-// Text is written into memory alone, so that nothing else can fail.
-impl From<fmt::Error> for Trouble as TroubleFromFmt {
-    fn from(_e: fmt::Error) -> Trouble {
-        Trouble::NoMemory
-    }
-}
-
-impl From<Refusal> for Trouble as TroubleFromRefusal {
-    fn from(why: Refusal) -> Trouble {
-        Trouble::Refused(why)
-    }
-}
-
-impl From<MakeError> for Trouble as TroubleFromMake {
-    fn from(e: MakeError) -> Trouble {
-        match e {
-            MakeError::Refused(why) => Trouble::Refused(why),
-            MakeError::NoMemory => Trouble::NoMemory,
-        }
+impl From<fmt::Error> for NoRoom as NoRoomFromFmt {
+    fn from(_e: fmt::Error) -> NoRoom {
+        NoRoom
     }
 }
 
@@ -81,17 +68,15 @@ pub impl fmt::Display for ReportError as ReportErrorDisplay {
                 let reason = fault.reason;
                 write!(f, "line {line}: {reason}")
             }
-            ReportError::Refused(why) => {
-                let number = why.number();
-                write!(f, "the auction refused an order of the study ({number})")
-            }
             ReportError::NoMemory => write!(f, "there is not enough memory"),
         }
     }
 }
 
 // A tape long enough for every call.
-fn blank_tape(heap: Global) -> Result<Vec<Trade>, AllocError> {
+fn blank_tape(heap: Global) -> Result<Vec<Trade>, AllocError>
+    ensures { λ r. ⌜ made r (λ v. vec-len v ≡ 256) ⌝ }
+{
     let blank = Trade {
         buy: 0,
         sell: 0,
@@ -106,15 +91,14 @@ fn write_call(
     heap: Global,
     out: &mut String,
     auction: &mut Auction,
-    study: &Study,
-) -> Result<(), Trouble> {
-    let orders = study.orders.as_slice();
+    orders: &[Order],
+) -> Result<(), NoRoom> {
     let mut tape = blank_tape(heap)?;
     let found = auction.outcome().price;
     let prices = prices_of(heap, orders, None, found)?;
     writeln!(out, "")?;
     write_picture(out, auction, None, found, prices.as_slice())?;
-    let struck = auction.strike(tape.as_mut_slice())?;
+    let struck = trades_of(auction, tape.as_mut_slice());
     let lines = tape.get(0..struck.lines).unwrap_or(&[]);
     writeln!(out, "")?;
     write_trades(out, lines)?;
@@ -123,21 +107,38 @@ fn write_call(
     Ok(())
 }
 
+// The trades with the asked order, and what stays after them.
+fn write_asked_trades(
+    heap: Global,
+    out: &mut String,
+    auction: &mut Auction,
+    orders: &[Order],
+    asked: Order,
+) -> Result<(), NoRoom>
+    requires { ⌜ Askable asked ⌝ }
+{
+    let mut tape = blank_tape(heap)?;
+    let struck = trades_with(auction, asked, tape.as_mut_slice());
+    let lines = tape.get(0..struck.lines).unwrap_or(&[]);
+    writeln!(out, "")?;
+    write_trades(out, lines)?;
+    writeln!(out, "")?;
+    write_rest(out, orders, Some(asked), lines)?;
+    Ok(())
+}
+
 // One question: what the call gives with the asked order in it.
 fn write_question(
     heap: Global,
     out: &mut String,
     auction: &mut Auction,
-    study: &Study,
+    orders: &[Order],
     asked: Order,
-) -> Result<(), Trouble> {
-    let orders = study.orders.as_slice();
-    let mut tape = blank_tape(heap)?;
+) -> Result<(), NoRoom>
+    requires { ⌜ Askable asked ⌝ }
+{
     let without = auction.outcome();
-    let kind = asked.terms.kind();
-    let price = asked.terms.limit().unwrap_or(0);
-    let answer = auction.ask(asked.side, kind, price, asked.quantity)?;
-    let struck = auction.preview(asked.side, kind, price, asked.quantity, tape.as_mut_slice())?;
+    let answer = answer_to(auction, asked);
     write_outcome_head(out)?;
     write_outcome(out, "without it", without)?;
     write_outcome(out, "with it", answer.outcome)?;
@@ -148,37 +149,30 @@ fn write_question(
     let prices = prices_of(heap, orders, Some(asked), found)?;
     writeln!(out, "")?;
     write_picture(out, auction, Some(asked), found, prices.as_slice())?;
-    let lines = tape.get(0..struck.lines).unwrap_or(&[]);
-    writeln!(out, "")?;
-    write_trades(out, lines)?;
-    writeln!(out, "")?;
-    write_rest(out, orders, Some(asked), lines)?;
-    Ok(())
+    write_asked_trades(heap, out, auction, orders, asked)
 }
 
 fn write_questions(
     heap: Global,
     out: &mut String,
     auction: &mut Auction,
-    study: &Study,
-) -> Result<(), Trouble> {
-    for (i, asked) in study.asks.as_slice().iter().enumerate() {
+    orders: &[Order],
+    asks: &[Order],
+) -> Result<(), NoRoom>
+    requires { ⌜ all fit-order (now asks) ≡ true ⌝ ∗ ⌜ all is-unnumbered (now asks) ≡ true ⌝ }
+{
+    for (i, asked) in asks.iter().enumerate() {
         let number = i.saturating_add(1);
         write!(out, "\nQuestion {number}: ")?;
         write_order(out, *asked)?;
         writeln!(out, "\n")?;
-        write_question(heap, out, auction, study, *asked)?;
+        write_question(heap, out, auction, orders, *asked)?;
     }
     Ok(())
 }
 
-// The whole answer to a study that was read.
-fn write_study(
-    heap: Global,
-    out: &mut String,
-    auction: &mut Auction,
-    study: &Study,
-) -> Result<(), Trouble> {
+// The book, and what its call gives as it stands.
+fn write_book(out: &mut String, auction: &Auction, study: &Study) -> Result<(), NoRoom> {
     let reference = Leva(study.reference);
     writeln!(out, "The book at reference price {reference}\n")?;
     write_orders(out, study.orders.as_slice())?;
@@ -188,18 +182,25 @@ fn write_study(
     write_outcome(out, "the call", outcome)?;
     writeln!(out, "")?;
     write_sentence(out, outcome)?;
-    if study.asks.is_empty() {
-        return write_call(heap, out, auction, study);
-    }
-    write_questions(heap, out, auction, study)
+    Ok(())
 }
 
-fn answer_study(heap: Global, study: &Study) -> Result<String, Trouble>
+// The whole answer to a study that was read.
+fn answer_study(heap: Global, study: &Study) -> Result<String, NoRoom>
     requires { ⌜ Sound (content (now study)) ⌝ }
 {
-    let mut auction = load(heap, study)?;
+    let Ok(mut auction) = load(heap, study) else {
+        return Err(NoRoom);
+    };
     let mut out = String::new(heap);
-    write_study(heap, &mut out, &mut auction, study)?;
+    write_book(&mut out, &auction, study)?;
+    let orders = study.orders.as_slice();
+    let asks = study.asks.as_slice();
+    if asks.is_empty() {
+        write_call(heap, &mut out, &mut auction, orders)?;
+    } else {
+        write_questions(heap, &mut out, &mut auction, orders, asks)?;
+    }
     Ok(out)
 }
 
@@ -214,7 +215,6 @@ pub fn report(heap: Global, text: &[u8]) -> Result<String, ReportError>
     };
     match answer_study(heap, &study) {
         Ok(answer) => Ok(answer),
-        Err(Trouble::Refused(why)) => Err(ReportError::Refused(why)),
-        Err(Trouble::NoMemory) => Err(ReportError::NoMemory),
+        Err(NoRoom) => Err(ReportError::NoMemory),
     }
 }
