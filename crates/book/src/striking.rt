@@ -17,7 +17,7 @@ use words::orders::Order;
 use words::sides::Side;
 use words::tape::Trade;
 
-// The outcome of a call that was struck, and how many lines of the tape are its trades.
+// The outcome of a call that was struck, or would be, and how many lines of the tape are its trades.
 #[derive(Clone, Copy)]
 pub struct Struck {
     pub outcome: Outcome,

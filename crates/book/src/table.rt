@@ -18,7 +18,7 @@ use words::orders::Order;
 use words::sides::Side;
 use words::tape::Trade;
 
-// A plain book. Who stands earlier in a side was granted earlier; a place that falls free is used again.
+// A plain book. Who stands earlier in a side was granted earlier; a slot that a trade empties is open to the next order.
 #[derive(Drop)]
 pub struct Book {
     pub buys: Vec<Order>,
@@ -55,7 +55,7 @@ impl Book {
         }
     }
 
-    // Takes a traded quantity from the order at a place, which is lent for that; the others stay as found.
+    // Takes a traded quantity from the order at a place, which is lent for that; no other order changes.
     pub fn reduce(&mut self, side: Side, place: usize, by: u32)
         requires { ⌜ place < length (standing-in side (now self)) ⌝ }
         ensures changed { λ _. ⌜ standing-in side (now (self .exit)) ≡ set (standing-in side (now (self .entry))) place (lowered (getD (standing-in side (now (self .entry))) place no-order) by) ⌝ }
@@ -69,7 +69,7 @@ impl Book {
         }
     }
 
-    // Gives the order at a place another open quantity; it keeps its time, and the others stay as found.
+    // Gives the order at a place another open quantity; it keeps its time, and no other order changes.
     pub fn resize(&mut self, side: Side, place: usize, quantity: u32)
         requires { ⌜ place < length (standing-in side (now self)) ⌝ }
         ensures changed { λ _. ⌜ standing-in side (now (self .exit)) ≡ set (standing-in side (now (self .entry))) place (resized (getD (standing-in side (now (self .entry))) place no-order) quantity) ⌝ }

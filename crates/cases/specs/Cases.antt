@@ -44,8 +44,14 @@ at p v s = record { price = Some p; volume = v; surplus = s }
 abbrev pub empty : Sides
 empty = sides [] []
 
-abbrev pub one-candidate : Sides
-one-candidate = sides (buy 1 100 1002 ∷ buy 2 200 1000 ∷ []) (sell 3 150 998 ∷ sell 4 100 1001 ∷ [])
+abbrev pub all-positive : Sides
+all-positive = sides (buy 1 100 1002 ∷ buy 2 200 1000 ∷ []) (sell 3 150 998 ∷ sell 4 100 1001 ∷ [])
+
+abbrev pub all-negative : Sides
+all-negative = sides (buy 1 100 1002 ∷ []) (sell 2 150 998 ∷ [])
+
+abbrev pub no-surplus : Sides
+no-surplus = sides (buy 1 100 1004 ∷ []) (sell 2 100 1000 ∷ [])
 
 abbrev pub two-ended : Sides
 two-ended = sides (buy 1 100 1004 ∷ buy 2 50 1000 ∷ []) (sell 3 100 1000 ∷ sell 4 50 1004 ∷ [])
@@ -62,14 +68,18 @@ ranked = sides (buy 1 40 1000 ∷ buy 2 40 1000 ∷ order 3 Buy 30 MarketToLimit
 
 pub record Worked-cases : Type 0 where
   pub empty-book : (reference : ℕ) → outcome-of empty reference ≡ no-price
-  pub highest-volume-then-least-surplus : (reference : ℕ) → outcome-of one-candidate reference ≡ at 1000 150 (pos 150)
+  pub highest-where-all-are-positive : (reference : ℕ) → outcome-of all-positive reference ≡ at 1000 150 (pos 150)
+  pub lowest-where-all-are-negative : (reference : ℕ) → outcome-of all-negative reference ≡ at 998 100 (negsuc 49)
+  pub reference-where-nothing-is-left-over : outcome-of no-surplus 1002 ≡ at 1002 100 (pos 0)
+  pub lowest-where-the-reference-is-lower : outcome-of no-surplus 990 ≡ at 1000 100 (pos 0)
+  pub highest-where-the-reference-is-higher : outcome-of no-surplus 1010 ≡ at 1004 100 (pos 0)
   pub reference-between-the-ends : outcome-of two-ended 1002 ≡ at 1002 100 (pos 0)
   pub reference-below-both : outcome-of two-ended 990 ≡ at 1000 100 (pos 50)
   pub reference-above-both : outcome-of two-ended 1010 ≡ at 1004 100 (negsuc 49)
   pub market-orders-alone : (reference : ℕ) → outcome-of market-only reference ≡ at reference 100 (pos 20)
-  pub lines-of-a-call : trades-of one-candidate 1000 ≡ trade 1 3 1000 100 ∷ trade 2 3 1000 50 ∷ []
-  pub book-after-it : after-strike one-candidate 1000 ≡ sides (buy 2 150 1000 ∷ []) (sell 4 100 1001 ∷ [])
+  pub lines-of-a-call : trades-of all-positive 1000 ≡ trade 1 3 1000 100 ∷ trade 2 3 1000 50 ∷ []
+  pub book-after-it : after-strike all-positive 1000 ≡ sides (buy 2 150 1000 ∷ []) (sell 4 100 1001 ∷ [])
   pub rank-then-time : trades-of ranked 1000 ≡ trade 3 5 1000 30 ∷ trade 4 5 1000 30 ∷ trade 1 5 1000 40 ∷ trade 2 5 1000 10 ∷ []
   -- with 60 more at 1,001 the price moves up to 1,001, where 160 trade and 90 stay unsold: the asked order is filled whole behind the buy at 1,002
-  pub asked-order-moves-the-price : answer-of one-candidate (buy 0 60 1001) 1000 ≡ record { outcome = at 1001 160 (negsuc 89); shares = 60 }
-  pub asked-order-gets-nothing : answer-of one-candidate (buy 0 60 999) 1000 ≡ record { outcome = at 1000 150 (pos 150); shares = 0 }
+  pub asked-order-moves-the-price : answer-of all-positive (buy 0 60 1001) 1000 ≡ record { outcome = at 1001 160 (negsuc 89); shares = 60 }
+  pub asked-order-gets-nothing : answer-of all-positive (buy 0 60 999) 1000 ≡ record { outcome = at 1000 150 (pos 150); shares = 0 }

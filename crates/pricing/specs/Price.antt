@@ -37,11 +37,11 @@ abbrev pub none : {X : Type 0} → List X → Bool
 none [] = true
 none (x ∷ xs) = false
 
--- Candidates: the limit prices of the book with the largest executable volume, if it is above 0, and among them those with the smallest surplus, sign left out.
+-- Candidates: of the limit prices that execute a share, those that execute most, and of these the ones that leave least over.
 abbrev pub candidates : Sides → List ℕ
 candidates s = smallest (gap s) (largest (volume s) (kept-by (λ p. ltb 0 (volume s p)) (limits s)))
 
--- The two ends, where neither sign is that of all: the highest candidate with positive surplus and the lowest with negative; where the surplus is 0, the lowest and the highest candidate.
+-- The span in which the price is sought where candidates differ in sign, or leave nothing over: from the highest with buyers left over to the lowest with sellers left over, or else from the lowest to the highest.
 abbrev pub lower-end : Sides → List ℕ → ℕ
 lower-end s cs = cond (each (even s) cs) (lowest cs) (highest (kept-by (positive s) cs))
 

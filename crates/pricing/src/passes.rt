@@ -16,7 +16,7 @@ pub struct Offer {
     pub gap: u32,
 }
 
-// Of the candidates: the highest with positive surplus, the lowest with negative, and the lowest and highest with none.
+// Of the candidates: the highest with positive surplus, the lowest with negative, and the lowest and highest with surplus 0.
 #[derive(Clone, Copy)]
 pub struct Ends {
     pub above: Option<u32>,

@@ -1,3 +1,3 @@
-// Ranking, written once for every kind of entry that has a total order. Nothing here knows what an entry is.
+// Ranking by any total order, over any type of entry.
 pub mod ranks;
 pub mod walks;

@@ -1,4 +1,4 @@
-// A picture of demand and supply at each limit price.
+// A picture of demand and supply at each limit price and at the auction price.
 ghost use Prim.Native.Nat.{_≤_};
 use crate::tables::write_price;
 use auction::held::Auction;
@@ -108,8 +108,11 @@ fn write_row<W: fmt::Write>(
     write_repeated(out, "#", left)?;
     write!(out, " {demand:>10}")?;
     write_price(out, price)?;
-    write!(out, " {supply:>10} ")?;
-    write_repeated(out, "#", right)?;
+    write!(out, " {supply:>10}")?;
+    if right > 0 {
+        write!(out, " ")?;
+        write_repeated(out, "#", right)?;
+    }
     if found {
         write!(out, "  <- auction price")?;
     }
@@ -129,10 +132,7 @@ pub(crate) fn write_picture<W: fmt::Write>(
     }
     let most = largest(auction, asked, prices);
     let unit = (most.saturating_sub(1) / WIDTH) + 1;
-    writeln!(
-        out,
-        "Demand and supply at each limit price (a mark is {unit} shares)"
-    )?;
+    writeln!(out, "Demand and supply by price (shares a mark: {unit})")?;
     writeln!(
         out,
         "                             demand     price     supply"

@@ -12,9 +12,9 @@ use words::terms::Terms;
 
 // The kind of an order and its limit, as a study writes them.
 #[derive(Drop)]
-struct Asked(Terms);
+struct TermsText(Terms);
 
-impl fmt::Display for Asked as AskedDisplay {
+impl fmt::Display for TermsText as TermsTextDisplay {
     fn fmt<W: fmt::Write>(&self, f: &mut fmt::Formatter<W>) -> fmt::Result {
         match self.0 {
             Terms::Limit(limit) => {
@@ -38,7 +38,7 @@ pub(crate) fn side_name(side: Side) -> &'static str {
 pub(crate) fn write_order<W: fmt::Write>(out: &mut W, order: Order) -> fmt::Result {
     let side = side_name(order.side);
     let quantity = order.quantity;
-    let terms = Asked(order.terms);
+    let terms = TermsText(order.terms);
     write!(out, "{side} {quantity} {terms}")
 }
 
@@ -62,7 +62,7 @@ fn write_line<W: fmt::Write>(out: &mut W, order: Order) -> fmt::Result {
     write_name(out, order.number)?;
     let side = side_name(order.side);
     let quantity = order.quantity;
-    let terms = Asked(order.terms);
+    let terms = TermsText(order.terms);
     writeln!(out, "  {side:<4}  {quantity:>9}  {terms}")
 }
 

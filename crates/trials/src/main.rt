@@ -1,4 +1,4 @@
-// Studies with their answers, held against answers from elsewhere: one line of output for each study of the input.
+// Studies, answered one after the other: what is printed is held against answers from elsewhere.
 // The studies of the input are parted by lines of three dashes. A study with a question is answered by it, another by its call.
 use auction::held::Auction;
 use inquiry::loading::load;
@@ -61,19 +61,26 @@ fn print_answer(rt: &LibcRuntime, auction: &mut Auction, study: &Study) -> Resul
     Ok(())
 }
 
-// The answer to one study, or its fault as the program whatif would name it.
+// The whole answer to one study, or its fault, as the program whatif prints them.
+fn print_report(rt: &LibcRuntime, text: &[u8]) -> Result<(), AnyError> {
+    match report(rt.alloc(), text) {
+        Ok(answer) => print!(rt, "{answer}")?,
+        Err(e) => println!(rt, "{e}")?,
+    }
+    Ok(())
+}
+
+// The numbers of the answer to one study, or its fault; the whole answer where the study's first line asks for it.
 fn print_study(rt: &LibcRuntime, text: &[u8]) -> Result<(), AnyError> {
+    if text.starts_with(b"# the whole answer\n") {
+        return print_report(rt, text);
+    }
     match read_study(rt.alloc(), text) {
         Ok(study) => match load(rt.alloc(), &study) {
             Ok(mut auction) => print_answer(rt, &mut auction, &study),
             Err(_) => Err("the auction could not be made".into()),
         },
-        Err(_) => {
-            if let Err(e) = report(rt.alloc(), text) {
-                println!(rt, "{e}")?;
-            }
-            Ok(())
-        }
+        Err(_) => print_report(rt, text),
     }
 }
 

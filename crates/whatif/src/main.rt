@@ -24,17 +24,17 @@ Orders rank by kind and limit, then by their order in the text. A price is from
 Each question is answered on the same book. Without a question the call itself is
 struck. Bad input gets one line on standard error and exit status 1.
 
-An example to paste into a shell:
+An example to paste into a shell, beside the script whatif:
 
-  whatif <<END
-  # closing call
-  reference 4.40
-  buy  12000 at 4.55
-  buy   8000 market
-  sell 15000 at 4.48
-  sell  5000 market-to-limit
-  ask buy 40000 at 4.50
-  END
+./whatif <<'END'
+# closing call
+reference 4.40
+buy  12000 at 4.55
+buy   8000 market
+sell 15000 at 4.48
+sell  5000 market-to-limit
+ask buy 40000 at 4.50
+END
 ";
 
 // The study's text: from the file that is named, or from standard input.

@@ -49,11 +49,12 @@ terms-for kinds.MarketToLimit p = MarketToLimit
 abbrev pub terms-from : Kind → ℕ → Result Terms Refusal
 terms-from k p = cond (price-fits k p) (Ok (terms-for k p)) (Err PriceUnfit)
 
--- an order can trade at a price if it has no limit, or its limit allows that price: a buy's at or below it, a sell's at or above it
+-- a buy's limit allows every price up to it, a sell's every price from it on
 abbrev pub allows : Side → ℕ → ℕ → Bool
 allows Buy limit p = leb p limit
 allows Sell limit p = leb limit p
 
+-- an order without a limit can trade at every price
 abbrev pub may-trade : Side → ℕ → Terms → Bool
 may-trade x p (Limit l) = allows x l p
 may-trade x p Market = true

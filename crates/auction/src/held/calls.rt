@@ -125,7 +125,7 @@ impl Auction {
         })
     }
 
-    // The order stands, last in time, and replies with its number.
+    // The order stands, last in time. Replies with its number.
     pub fn enter(
         &mut self,
         side: Side,

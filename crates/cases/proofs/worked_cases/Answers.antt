@@ -4,7 +4,11 @@ use Rattle.cases.proofs.worked_cases.Needs as need
 pub returns : need.returns
 returns c = record {
   empty-book = λ reference. refl;
-  highest-volume-then-least-surplus = λ reference. refl;
+  highest-where-all-are-positive = λ reference. refl;
+  lowest-where-all-are-negative = λ reference. refl;
+  reference-where-nothing-is-left-over = refl;
+  lowest-where-the-reference-is-lower = refl;
+  highest-where-the-reference-is-higher = refl;
   reference-between-the-ends = refl;
   reference-below-both = refl;
   reference-above-both = refl;
