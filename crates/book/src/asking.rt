@@ -64,13 +64,9 @@ pub fn ask(
 {
     let guard = WhatIf::new(book, order);
     guard.gather(gathered);
-    reply_for(
-        gathered.buys.as_slice(),
-        gathered.sells.as_slice(),
-        order,
-        reference,
-        ranked,
-    )
+    let buys = gathered.buys.as_slice();
+    let sells = gathered.sells.as_slice();
+    reply_for(buys, sells, order, reference, ranked)
 }
 
 // The same question, with the trades that the call would make: they are the first lines of the tape, whose further places stay.
@@ -90,11 +86,7 @@ pub fn preview(
 {
     let guard = WhatIf::new(book, order);
     guard.gather(gathered);
-    strike_orders(
-        gathered.buys.as_slice(),
-        gathered.sells.as_slice(),
-        reference,
-        tape,
-        ranked,
-    )
+    let buys = gathered.buys.as_slice();
+    let sells = gathered.sells.as_slice();
+    strike_orders(buys, sells, reference, tape, ranked)
 }

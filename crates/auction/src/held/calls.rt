@@ -91,11 +91,9 @@ impl Auction {
         ensures value { λ r. ⌜ r ≡ outcome-of (view (now (self .entry)) .sides) (view (now (self .entry)) .reference) ⌝ }
         ensures law_of_price { λ r. ⌜ Law-of-price (view (now (self .entry)) .sides) (view (now (self .entry)) .reference) (r .price) ⌝ }
     {
-        find_price(
-            self.book.buys.as_slice(),
-            self.book.sells.as_slice(),
-            self.reference,
-        )
+        let buys = self.book.buys.as_slice();
+        let sells = self.book.sells.as_slice();
+        find_price(buys, sells, self.reference)
     }
 }
 
