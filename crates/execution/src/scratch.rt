@@ -2,7 +2,8 @@
 ghost use mathlib.Core.Path.{_≡_};
 ghost use mathlib.Core.List.{[]};
 ghost use Prim.Native.Nat.{_≤_};
-ghost use Rattle.std.specs.Of.Vec.{vec-cap};
+ghost use Rattle.std.specs.Of.Vec.{vec-items, vec-cap};
+ghost use Rattle.std.specs.Vec.{made};
 use std::alloc::AllocError;
 use std::alloc::Global;
 use words::orders::Order;
@@ -16,7 +17,9 @@ pub struct Scratch {
 }
 
 impl Scratch {
-    pub fn new(heap: Global) -> Result<Scratch, AllocError> {
+    pub fn new(heap: Global) -> Result<Scratch, AllocError>
+        ensures { λ r. ⌜ made r (λ s. (vec-items (s .buys) ≡ []) × (vec-items (s .sells) ≡ [])) ⌝ }
+    {
         let buys = Vec::with_capacity(heap, 129)?;
         let sells = Vec::with_capacity(heap, 129)?;
         Ok(Scratch { buys, sells })

@@ -11,55 +11,55 @@ use Rattle.std.specs.declared.option.Option.the-variants.{Some, None}
 use Rattle.std.specs.shelf.Lists.{folded, kept-by}
 use Rattle.std.proofs.shelf.Tests.{cases-bool, cases-lt, cases-eq, ltb-true, ltb-false, leb-true, le-ltb, lt-ltb, le-leb, eq-eqb, ne-eqb, eqb-true}
 use Rattle.std.proofs.shelf.Ways.{tells}
-use Rattle.pricing.specs.declared.passes.Offer.{Offer}
+use Rattle.pricing.specs.declared.passes.Merit.{Merit}
 use Rattle.pricing.specs.declared.passes.Ends.{Ends}
 use Rattle.ranking.specs.Lists.{In, each}
-use Rattle.pricing.specs.Sides.{Sides, demand, supply, volume, gap, positive, negative, even, limits}
-use Rattle.pricing.specs.Price.{largest, smallest, highest, lowest, highest-with, lowest-with, candidates, nearest, chosen, unlimited, price-of, auction-price}
-use Rattle.pricing.specs.Passes.{offer-of, better, best-from, or-higher, or-lower, as-good, widen, ends-from, from-even, from-ends, choice, nothing, no-ends}
+use Rattle.pricing.specs.Sides.{Sides, demand, supply, volume, gap, positive, negative, balanced, limits}
+use Rattle.pricing.specs.Price.{largest, smallest, highest, lowest, highest-with, lowest-with, candidates, nearest, chosen, market-only, price-of, auction-price}
+use Rattle.pricing.specs.Passes.{merit-of, better, best-from, or-higher, or-lower, as-good, widen, ends-from, from-balanced, from-ends, choice, nothing, no-ends}
 use Rattle.ranking.proofs.Lists.{in-kept, kept-in, each-in, each-from, kept-same, kept-kept, kept-all, kept-none}
 use Rattle.pricing.proofs.Prices.{Best, candidate-best, has-candidate, both-signs}
 
 -- ---- the first pass
 
-abbrev offer : Sides → ℕ → Offer
-offer b p = offer-of (demand b p) (supply b p)
+abbrev merit : Sides → ℕ → Merit
+merit b p = merit-of (demand b p) (supply b p)
 
 -- x does not do better than r
-abbrev Le : Offer → Offer → Type 0
+abbrev Le : Merit → Merit → Type 0
 Le x r = (x .volume ≤ r .volume) × (x .volume ≡ r .volume → r .gap ≤ x .gap)
 
-le-chain : (x y z : Offer) → Le x y → Le y z → Le x z
+le-chain : (x y z : Merit) → Le x y → Le y z → Le x z
 le-chain x y z h k = (omega arith, λ e. omega (arith, h .1 (omega arith), k .1 (omega arith)))
 
-better-old : (y x : Offer) → Le y (better y x)
+better-old : (y x : Merit) → Le y (better y x)
 better-old y x = (grind (arith, tells), λ e. grind (arith, tells))
 
-better-new : (y x : Offer) → Le x (better y x)
+better-new : (y x : Merit) → Le x (better y x)
 better-new y x = (grind (arith, tells), λ e. grind (arith, tells))
 
-better-is : (y x : Offer) → (better y x ≡ y) ⊎ (better y x ≡ x)
+better-is : (y x : Merit) → (better y x ≡ y) ⊎ (better y x ≡ x)
 better-is y x = elim (ltb (y .volume) (x .volume) || (eqb (x .volume) (y .volume) && ltb (x .gap) (y .gap))) as (λ t. (cond t x y ≡ y) ⊎ (cond t x y ≡ x)) [ true ↦ inr refl | false ↦ inl refl ]
 
 module _ (b : Sides) where
-  best-start : (y : Offer) (ps : List ℕ) → Le y (best-from b y ps)
+  best-start : (y : Merit) (ps : List ℕ) → Le y (best-from b y ps)
   best-start y [] = (omega arith, λ e. omega arith)
-  best-start y (p ∷ ps) = le-chain y (better y (offer b p)) _ (better-old y (offer b p)) (best-start (better y (offer b p)) ps)
+  best-start y (p ∷ ps) = le-chain y (better y (merit b p)) _ (better-old y (merit b p)) (best-start (better y (merit b p)) ps)
 
-  best-each : (y : Offer) (ps : List ℕ) (p : ℕ) → In p ps → Le (offer b p) (best-from b y ps)
+  best-each : (y : Merit) (ps : List ℕ) (p : ℕ) → In p ps → Le (merit b p) (best-from b y ps)
   best-each y [] p m = absurd m
   best-each y (q ∷ ps) p (inl e) =
-      subst (λ z. Le (offer b z) (best-from b y (q ∷ ps))) (sym e) (le-chain (offer b q) (better y (offer b q)) _ (better-new y (offer b q)) (best-start (better y (offer b q)) ps))
-  best-each y (q ∷ ps) p (inr m) = best-each (better y (offer b q)) ps p m
+      subst (λ z. Le (merit b z) (best-from b y (q ∷ ps))) (sym e) (le-chain (merit b q) (better y (merit b q)) _ (better-new y (merit b q)) (best-start (better y (merit b q)) ps))
+  best-each y (q ∷ ps) p (inr m) = best-each (better y (merit b q)) ps p m
 
-  best-one : (y : Offer) (ps : List ℕ) → (best-from b y ps ≡ y) ⊎ ((p : ℕ) × In p ps × (best-from b y ps ≡ offer b p))
+  best-one : (y : Merit) (ps : List ℕ) → (best-from b y ps ≡ y) ⊎ ((p : ℕ) × In p ps × (best-from b y ps ≡ merit b p))
   best-one y [] = inl refl
-  best-one y (p ∷ ps) = go (better-is y (offer b p)) (best-one (better y (offer b p)) ps)
+  best-one y (p ∷ ps) = go (better-is y (merit b p)) (best-one (better y (merit b p)) ps)
     where
-      r : Offer
-      r = best-from b (better y (offer b p)) ps
+      r : Merit
+      r = best-from b (better y (merit b p)) ps
 
-      go : (better y (offer b p) ≡ y) ⊎ (better y (offer b p) ≡ offer b p) → (r ≡ better y (offer b p)) ⊎ ((q : ℕ) × In q ps × (r ≡ offer b q)) → (r ≡ y) ⊎ ((q : ℕ) × In q (p ∷ ps) × (r ≡ offer b q))
+      go : (better y (merit b p) ≡ y) ⊎ (better y (merit b p) ≡ merit b p) → (r ≡ better y (merit b p)) ⊎ ((q : ℕ) × In q ps × (r ≡ merit b q)) → (r ≡ y) ⊎ ((q : ℕ) × In q (p ∷ ps) × (r ≡ merit b q))
       go (inl e) (inl f) = inl (f ∙ e)
       go (inr e) (inl f) = inr (p, inl refl, f ∙ e)
       go e (inr f) = inr (f .0, inr (f .1), f .2)
@@ -82,10 +82,10 @@ smallest-is f v w ps h m e = kept-same _ _ ps (λ p i. go p i (cases-eq (f p) v)
     go p i (inr k) =
         ⊎-elim (λ t. absurd (k (omega (arith, leb-true _ _ (each-in (λ q. leb (f p) (f q)) ps t w m), h p i)))) (λ t. t ∙ sym (ne-eqb _ _ k)) (cases-bool (each (λ q. leb (f p) (f q)) ps))
 
-abbrev good : Sides → Offer → ℕ → Bool
+abbrev good : Sides → Merit → ℕ → Bool
 good b y p = as-good y (demand b p) (supply b p)
 
-candidates-are : (b : Sides) (y : Offer) → 0 < y .volume → ((p : ℕ) → In p (limits b) → Le (offer b p) y) → (w : ℕ) → In w (limits b) → y ≡ offer b w → candidates b ≡ kept-by (good b y) (limits b)
+candidates-are : (b : Sides) (y : Merit) → 0 < y .volume → ((p : ℕ) → In p (limits b) → Le (merit b p) y) → (w : ℕ) → In w (limits b) → y ≡ merit b w → candidates b ≡ kept-by (good b y) (limits b)
 candidates-are b y some h w m e =
     let v = y .volume in
     let ps = kept-by (λ p. ltb 0 (volume b p)) (limits b) in
@@ -142,7 +142,7 @@ module _ (t : ℕ → Bool) where
   downs-none [] = refl
   downs-none (p ∷ ps) = elim (t p) as (λ v. downs (cond v (Some p) None) ps ≡ bottom (cond v (p ∷ kept-by t ps) (kept-by t ps))) [ true ↦ downs-some p ps | false ↦ downs-none ps ]
 
-module _ (b : Sides) (y : Offer) where
+module _ (b : Sides) (y : Merit) where
   above-is : (e : Ends) (ps : List ℕ) → ends-from b y e ps .above ≡ ups (λ p. good b y p && positive b p) (e .above) ps
   above-is e [] = refl
   above-is e (p ∷ ps) = above-is (widen y e p (demand b p) (supply b p)) ps
@@ -151,27 +151,27 @@ module _ (b : Sides) (y : Offer) where
   below-is e [] = refl
   below-is e (p ∷ ps) = below-is (widen y e p (demand b p) (supply b p)) ps
 
-  low-is : (e : Ends) (ps : List ℕ) → ends-from b y e ps .low ≡ downs (λ p. good b y p && even b p) (e .low) ps
+  low-is : (e : Ends) (ps : List ℕ) → ends-from b y e ps .low ≡ downs (λ p. good b y p && balanced b p) (e .low) ps
   low-is e [] = refl
   low-is e (p ∷ ps) = low-is (widen y e p (demand b p) (supply b p)) ps
 
-  high-is : (e : Ends) (ps : List ℕ) → ends-from b y e ps .high ≡ ups (λ p. good b y p && even b p) (e .high) ps
+  high-is : (e : Ends) (ps : List ℕ) → ends-from b y e ps .high ≡ ups (λ p. good b y p && balanced b p) (e .high) ps
   high-is e [] = refl
   high-is e (p ∷ ps) = high-is (widen y e p (demand b p) (supply b p)) ps
 
--- the choice from lists of positive, negative and even candidates
+-- the choice from lists of positive, negative and balanced candidates
 abbrev chosen-from : ℕ → List ℕ → List ℕ → List ℕ → Option ℕ
-chosen-from reference us ds es = from-ends (top us) (bottom ds) (from-even (bottom es) (top es) reference) reference
+chosen-from reference us ds es = from-ends (top us) (bottom ds) (from-balanced (bottom es) (top es) reference) reference
 
-ends-choice : (b : Sides) (y : Offer) (reference : ℕ) (ps : List ℕ)
-    → choice (ends-from b y no-ends ps) reference ≡ chosen-from reference (kept-by (positive b) (kept-by (good b y) ps)) (kept-by (negative b) (kept-by (good b y) ps)) (kept-by (even b) (kept-by (good b y) ps))
+ends-choice : (b : Sides) (y : Merit) (reference : ℕ) (ps : List ℕ)
+    → choice (ends-from b y no-ends ps) reference ≡ chosen-from reference (kept-by (positive b) (kept-by (good b y) ps)) (kept-by (negative b) (kept-by (good b y) ps)) (kept-by (balanced b) (kept-by (good b y) ps))
 ends-choice b y reference ps =
     let g = good b y in
     let a = above-is b y no-ends ps ∙ ups-none (λ p. g p && positive b p) ps ∙ ap top (sym (kept-kept (positive b) g ps)) in
     let d = below-is b y no-ends ps ∙ downs-none (λ p. g p && negative b p) ps ∙ ap bottom (sym (kept-kept (negative b) g ps)) in
-    let l = low-is b y no-ends ps ∙ downs-none (λ p. g p && even b p) ps ∙ ap bottom (sym (kept-kept (even b) g ps)) in
-    let h = high-is b y no-ends ps ∙ ups-none (λ p. g p && even b p) ps ∙ ap top (sym (kept-kept (even b) g ps)) in
-    λ i. from-ends (a i) (d i) (from-even (l i) (h i) reference) reference
+    let l = low-is b y no-ends ps ∙ downs-none (λ p. g p && balanced b p) ps ∙ ap bottom (sym (kept-kept (balanced b) g ps)) in
+    let h = high-is b y no-ends ps ∙ ups-none (λ p. g p && balanced b p) ps ∙ ap top (sym (kept-kept (balanced b) g ps)) in
+    λ i. from-ends (a i) (d i) (from-balanced (l i) (h i) reference) reference
 
 -- ---- that is the price chosen
 
@@ -191,12 +191,12 @@ module _ (b : Sides) (reference c : ℕ) (cs : List ℕ) (all : (x : ℕ) → In
   ds = kept-by (negative b) (c ∷ cs)
 
   abbrev es : List ℕ
-  es = kept-by (even b) (c ∷ cs)
+  es = kept-by (balanced b) (c ∷ cs)
 
   abbrev Goal : Bool → Bool → Bool → Type 0
   Goal vp vn ve = chosen-from reference us ds es ≡ Some (cond vp (highest (c ∷ cs)) (cond vn (lowest (c ∷ cs)) (nearest (cond ve (lowest (c ∷ cs)) (highest us)) (cond ve (highest (c ∷ cs)) (lowest ds)) reference)))
 
-  go : (vp vn ve : Bool) → each (positive b) (c ∷ cs) ≡ vp → each (negative b) (c ∷ cs) ≡ vn → each (even b) (c ∷ cs) ≡ ve → Goal vp vn ve
+  go : (vp vn ve : Bool) → each (positive b) (c ∷ cs) ≡ vp → each (negative b) (c ∷ cs) ≡ vn → each (balanced b) (c ∷ cs) ≡ ve → Goal vp vn ve
   go true vn ve e f g =
       let u : us ≡ c ∷ cs = kept-all (positive b) (c ∷ cs) e in
       let d : ds ≡ [] = kept-none (negative b) (c ∷ cs) (λ x m. le-ltb _ _ (omega (arith, ltb-true _ _ (each-in (positive b) (c ∷ cs) e x m)))) in
@@ -206,43 +206,43 @@ module _ (b : Sides) (reference c : ℕ) (cs : List ℕ) (all : (x : ℕ) → In
       let d : ds ≡ c ∷ cs = kept-all (negative b) (c ∷ cs) f in
       ap₂ (λ k l. chosen-from reference k l es) u d
   go false false true e f g =
-      let u : us ≡ [] = kept-none (positive b) (c ∷ cs) (λ x m. le-ltb _ _ (omega (arith, eqb-true _ _ (each-in (even b) (c ∷ cs) g x m)))) in
-      let d : ds ≡ [] = kept-none (negative b) (c ∷ cs) (λ x m. le-ltb _ _ (omega (arith, eqb-true _ _ (each-in (even b) (c ∷ cs) g x m)))) in
-      let v : es ≡ c ∷ cs = kept-all (even b) (c ∷ cs) g in
+      let u : us ≡ [] = kept-none (positive b) (c ∷ cs) (λ x m. le-ltb _ _ (omega (arith, eqb-true _ _ (each-in (balanced b) (c ∷ cs) g x m)))) in
+      let d : ds ≡ [] = kept-none (negative b) (c ∷ cs) (λ x m. le-ltb _ _ (omega (arith, eqb-true _ _ (each-in (balanced b) (c ∷ cs) g x m)))) in
+      let v : es ≡ c ∷ cs = kept-all (balanced b) (c ∷ cs) g in
       ap₂ (λ k l. chosen-from reference k l es) u d ∙ ap (λ k. chosen-from reference [] [] k) v
   go false false false e f g =
       let two = both-signs b reference c cs all g e f in
       let u = top-some (two .0 .0) us (in-kept (positive b) (c ∷ cs) (two .0 .0) (two .0 .1) (two .0 .2)) in
       let d = bottom-some (two .1 .0) ds (in-kept (negative b) (c ∷ cs) (two .1 .0) (two .1 .1) (two .1 .2)) in
-      ap₂ (λ k l. from-ends k l (from-even (bottom es) (top es) reference) reference) u d
+      ap₂ (λ k l. from-ends k l (from-balanced (bottom es) (top es) reference) reference) u d
 
   choice-chosen : chosen-from reference us ds es ≡ Some (chosen b reference (c ∷ cs))
-  choice-chosen = go (each (positive b) (c ∷ cs)) (each (negative b) (c ∷ cs)) (each (even b) (c ∷ cs)) refl refl refl
+  choice-chosen = go (each (positive b) (c ∷ cs)) (each (negative b) (c ∷ cs)) (each (balanced b) (c ∷ cs)) refl refl refl
 
 -- ---- the two passes
 
 with-candidates : (b : Sides) (reference x : ℕ) (cs : List ℕ) → ((x : ℕ) → In x cs → Best b x) → In x cs
-    → chosen-from reference (kept-by (positive b) cs) (kept-by (negative b) cs) (kept-by (even b) cs) ≡ price-of b reference cs
+    → chosen-from reference (kept-by (positive b) cs) (kept-by (negative b) cs) (kept-by (balanced b) cs) ≡ price-of b reference cs
 with-candidates b reference x [] all m = absurd m
 with-candidates b reference x (c ∷ cs) all m = choice-chosen b reference c cs all
 
-pub passes-find : (b : Sides) (reference : ℕ) (y : Offer) → y ≡ best-from b nothing (limits b) → 0 < y .volume → choice (ends-from b y no-ends (limits b)) reference ≡ auction-price b reference
+pub passes-find : (b : Sides) (reference : ℕ) (y : Merit) → y ≡ best-from b nothing (limits b) → 0 < y .volume → choice (ends-from b y no-ends (limits b)) reference ≡ auction-price b reference
 passes-find b reference y e h = ⊎-elim (λ k. absurd (omega (arith, ap (λ z. z .volume) (e ∙ k)))) found (best-one b nothing (limits b))
   where
-    found : (p : ℕ) × In p (limits b) × (best-from b nothing (limits b) ≡ offer b p) → choice (ends-from b y no-ends (limits b)) reference ≡ auction-price b reference
+    found : (p : ℕ) × In p (limits b) × (best-from b nothing (limits b) ≡ merit b p) → choice (ends-from b y no-ends (limits b)) reference ≡ auction-price b reference
     found k =
-        let at : y ≡ offer b (k .0) = e ∙ k .2 in
-        let are = candidates-are b y h (λ p m. subst (Le (offer b p)) (sym e) (best-each b nothing (limits b) p m)) (k .0) (k .1) at in
+        let at : y ≡ merit b (k .0) = e ∙ k .2 in
+        let are = candidates-are b y h (λ p m. subst (Le (merit b p)) (sym e) (best-each b nothing (limits b) p m)) (k .0) (k .1) at in
         let some = has-candidate b (k .0) (k .1) (omega (arith, ap (λ z. z .volume) at)) in
         ends-choice b y reference (limits b)
-        ∙ ap (λ cs. chosen-from reference (kept-by (positive b) cs) (kept-by (negative b) cs) (kept-by (even b) cs)) (sym are)
+        ∙ ap (λ cs. chosen-from reference (kept-by (positive b) cs) (kept-by (negative b) cs) (kept-by (balanced b) cs)) (sym are)
         ∙ with-candidates b reference (some .0) (candidates b) (candidate-best b) (some .1)
 
-empty-candidates : (b : Sides) (reference : ℕ) (cs : List ℕ) → ((c : ℕ) → In c cs → ⊥) → price-of b reference cs ≡ cond (unlimited b) (Some reference) None
+empty-candidates : (b : Sides) (reference : ℕ) (cs : List ℕ) → ((c : ℕ) → In c cs → ⊥) → price-of b reference cs ≡ cond (market-only b) (Some reference) None
 empty-candidates b reference [] h = refl
 empty-candidates b reference (c ∷ cs) h = absurd (h c (inl refl))
 
-pub passes-miss : (b : Sides) (reference : ℕ) (y : Offer) → y ≡ best-from b nothing (limits b) → y .volume ≡ 0 → cond (unlimited b) (Some reference) None ≡ auction-price b reference
+pub passes-miss : (b : Sides) (reference : ℕ) (y : Merit) → y ≡ best-from b nothing (limits b) → y .volume ≡ 0 → cond (market-only b) (Some reference) None ≡ auction-price b reference
 passes-miss b reference y e h =
     sym (empty-candidates b reference (candidates b) (λ c m.
     let k = candidate-best b c m in

@@ -20,8 +20,8 @@ use Rattle.words.specs.declared.sides.Side.the-variants.{Buy, Sell}
 use Rattle.words.specs.declared.terms.Condition.{Condition}
 use Rattle.words.specs.Terms.{may-trade}
 use Rattle.ranking.specs.Lists.{In, total, each}
-use Rattle.pricing.specs.Sides.{Sides, sides, can-trade, open-at, demand, supply, volume, gap, positive, negative, even, limits, limits-of, with-limit}
-use Rattle.pricing.specs.Price.{largest, smallest, highest, lowest, highest-with, lowest-with, none, candidates, lower-end, upper-end, nearest, chosen, unlimited, price-of, auction-price}
+use Rattle.pricing.specs.Sides.{Sides, sides, can-trade, open-at, demand, supply, volume, gap, positive, negative, balanced, limits, limits-of, with-limit}
+use Rattle.pricing.specs.Price.{largest, smallest, highest, lowest, highest-with, lowest-with, none, candidates, lower-end, upper-end, nearest, chosen, market-only, price-of, auction-price}
 use Rattle.pricing.specs.Outcomes.{outcome-at}
 use Rattle.pricing.specs.Laws.{Between, Placed, Found, Law-of-price}
 use Rattle.ranking.proofs.Lists.{in-left, in-right, in-kept, kept-in, each-in, each-from, each-not, has-top, total-le}
@@ -157,11 +157,11 @@ lowest-kept t cs c m h = kept-in t cs (lowest (kept-by t cs)) (go (kept-by t cs)
     go (k ∷ ks) n = lowest-in k ks
 
 module _ (b : Sides) (reference c : ℕ) (cs : List ℕ) (all : (x : ℕ) → In x (c ∷ cs) → Best b x) where
-  -- where not all are even, not all positive and not all negative, both signs occur
-  pub both-signs : each (even b) (c ∷ cs) ≡ false → each (positive b) (c ∷ cs) ≡ false → each (negative b) (c ∷ cs) ≡ false
+  -- where not all are balanced, not all positive and not all negative, both signs occur
+  pub both-signs : each (balanced b) (c ∷ cs) ≡ false → each (positive b) (c ∷ cs) ≡ false → each (negative b) (c ∷ cs) ≡ false
       → ((x : ℕ) × In x (c ∷ cs) × (positive b x ≡ true)) × ((x : ℕ) × In x (c ∷ cs) × (negative b x ≡ true))
   both-signs e np nn =
-      let u = each-not (even b) (c ∷ cs) e in
+      let u = each-not (balanced b) (c ∷ cs) e in
       let p = each-not (positive b) (c ∷ cs) np in
       let n = each-not (negative b) (c ∷ cs) nn in
       let gp = same-gap b (u .0) (p .0) (all _ (u .1)) (all _ (p .1)) in
@@ -171,13 +171,13 @@ module _ (b : Sides) (reference c : ℕ) (cs : List ℕ) (all : (x : ℕ) → In
       let nf = ltb-false _ _ (n .2) in
       ((n .0, n .1, lt-ltb _ _ (grind arith)), (p .0, p .1, lt-ltb _ _ (grind arith)))
 
-  ends : (v : Bool) → each (even b) (c ∷ cs) ≡ v → each (positive b) (c ∷ cs) ≡ false → each (negative b) (c ∷ cs) ≡ false
+  ends : (v : Bool) → each (balanced b) (c ∷ cs) ≡ v → each (positive b) (c ∷ cs) ≡ false → each (negative b) (c ∷ cs) ≡ false
       → Good b reference (nearest (cond v (lowest (c ∷ cs)) (highest (kept-by (positive b) (c ∷ cs)))) (cond v (highest (c ∷ cs)) (lowest (kept-by (negative b) (c ∷ cs)))) reference)
   ends true e np nn =
       let lo = lowest-in c cs in
       let hi = highest-in c cs in
       between b reference _ _ (all _ lo) (all _ hi)
-      (omega (arith, eqb-true _ _ (each-in (even b) (c ∷ cs) e _ lo))) (omega (arith, eqb-true _ _ (each-in (even b) (c ∷ cs) e _ hi)))
+      (omega (arith, eqb-true _ _ (each-in (balanced b) (c ∷ cs) e _ lo))) (omega (arith, eqb-true _ _ (each-in (balanced b) (c ∷ cs) e _ hi)))
       (omega (arith, lowest-under c cs, highest-over c cs))
   ends false e np nn =
       let two = both-signs e np nn in
@@ -194,7 +194,7 @@ module _ (b : Sides) (reference c : ℕ) (cs : List ℕ) (all : (x : ℕ) → In
   chosen-good =
       cond-both (each (positive b) (c ∷ cs)) _ _ (Good b reference) (λ _. good b reference _ (all _ (highest-in c cs)))
       (λ np. cond-both (each (negative b) (c ∷ cs)) _ _ (Good b reference) (λ _. good b reference _ (all _ (lowest-in c cs)))
-      (λ nn. ends (each (even b) (c ∷ cs)) refl np nn))
+      (λ nn. ends (each (balanced b) (c ∷ cs)) refl np nn))
 
 no-limits : (xs : List ℕ) → none xs ≡ true → (l : ℕ) → In l xs → ⊥
 no-limits [] e l m = m
@@ -202,9 +202,9 @@ no-limits (x ∷ xs) e l m = true≢false (sym e)
 
 -- the price of a list of candidates
 found : (b : Sides) (reference p : ℕ) (cs : List ℕ) → ((x : ℕ) → In x cs → Best b x) → price-of b reference cs ≡ Some p → Good b reference p
-found b reference p [] all e = go (unlimited b) refl e
+found b reference p [] all e = go (market-only b) refl e
   where
-    go : (u : Bool) → unlimited b ≡ u → cond u (Some reference) None ≡ Some p → Good b reference p
+    go : (u : Bool) → market-only b ≡ u → cond u (Some reference) None ≡ Some p → Good b reference p
     go true k e =
         let empty = no-limits (limits b) (and-parts (none (limits b)) _ k .0) in
         let same : p ≡ reference = cc in
@@ -293,8 +293,8 @@ nothing : (xs : List Order) (f : Order → ℕ) → not (none xs) ≡ false → 
 nothing [] f e = refl
 nothing (x ∷ xs) f e = absurd (true≢false e)
 
-no-candidate : (b : Sides) (reference : ℕ) (cs : List ℕ) → price-of b reference cs ≡ None → (unlimited b ≡ false) × ((c : ℕ) → In c cs → ⊥)
-no-candidate b reference [] e = (go (unlimited b) e, λ c m. m)
+no-candidate : (b : Sides) (reference : ℕ) (cs : List ℕ) → price-of b reference cs ≡ None → (market-only b ≡ false) × ((c : ℕ) → In c cs → ⊥)
+no-candidate b reference [] e = (go (market-only b) e, λ c m. m)
   where
     go : (u : Bool) → cond u (Some reference) None ≡ None → u ≡ false
     go true e = let z : _≡_ {A = ℕ} 0 1 = cc in absurd (omega arith)
@@ -304,7 +304,7 @@ no-candidate b reference (c ∷ cs) e = let z : _≡_ {A = ℕ} 0 1 = cc in absu
 none-trades : (b : Sides) (reference : ℕ) → auction-price b reference ≡ None → (q : ℕ) → volume b q ≡ 0
 none-trades b reference e q = by (matched b q)
   where
-    facts : (unlimited b ≡ false) × ((c : ℕ) → In c (candidates b) → ⊥)
+    facts : (market-only b ≡ false) × ((c : ℕ) → In c (candidates b) → ⊥)
     facts = no-candidate b reference (candidates b) e
 
     limit-none : (l : ℕ) → In l (limits b) → volume b l ≡ 0

@@ -10,7 +10,7 @@ use Rattle.std.proofs.shelf.Tests.{true≢false, false≢true}
 use Rattle.words.specs.declared.orders.Order.{Order}
 use Rattle.words.specs.declared.terms.Terms.{Terms}
 use Rattle.words.specs.declared.terms.Terms.the-variants.{Limit, Market, MarketToLimit}
-use Rattle.pricing.specs.declared.passes.Offer.{Offer}
+use Rattle.pricing.specs.declared.passes.Merit.{Merit}
 use Rattle.pricing.specs.declared.passes.Ends.{Ends}
 use Rattle.pricing.specs.Sides.{Sides, limits-of, with-limit}
 use Rattle.pricing.specs.Price.{none}
@@ -21,22 +21,22 @@ pub folded-append : {A B : Type 0} (f : B → A → B) (a : B) (xs ys : List A) 
 folded-append f a [] ys = refl
 folded-append f a (x ∷ xs) ys = folded-append f (f a x) xs ys
 
-best-one : (b : Sides) (y : Offer) (t : Terms) (ls : List ℕ) → best-from b (best-by b y t) ls ≡ best-from b y (with-limit t ls)
+best-one : (b : Sides) (y : Merit) (t : Terms) (ls : List ℕ) → best-from b (best-by b y t) ls ≡ best-from b y (with-limit t ls)
 best-one b y (Limit l) ls = refl
 best-one b y Market ls = refl
 best-one b y MarketToLimit ls = refl
 
-ends-one : (b : Sides) (v : Offer) (e : Ends) (t : Terms) (ls : List ℕ) → ends-from b v (ends-by b v e t) ls ≡ ends-from b v e (with-limit t ls)
+ends-one : (b : Sides) (v : Merit) (e : Ends) (t : Terms) (ls : List ℕ) → ends-from b v (ends-by b v e t) ls ≡ ends-from b v e (with-limit t ls)
 ends-one b v e (Limit l) ls = refl
 ends-one b v e Market ls = refl
 ends-one b v e MarketToLimit ls = refl
 
-pub best-more : (b : Sides) (os : List Order) (i : ℕ) (y z : Offer) → i < length os → z ≡ best-by b y (getD os i no-order .terms) → best-from b z (limits-of (drop (i + 1) os)) ≡ best-from b y (limits-of (drop i os))
+pub best-more : (b : Sides) (os : List Order) (i : ℕ) (y z : Merit) → i < length os → z ≡ best-by b y (getD os i no-order .terms) → best-from b z (limits-of (drop (i + 1) os)) ≡ best-from b y (limits-of (drop i os))
 best-more b os i y z h e =
     ap (λ w. best-from b w (limits-of (drop (i + 1) os))) e ∙ best-one b y (getD os i no-order .terms) (limits-of (drop (i + 1) os))
     ∙ sym (at-drop-more (λ l. best-from b y (limits-of l)) os i no-order h)
 
-pub ends-more : (b : Sides) (v : Offer) (os : List Order) (i : ℕ) (y z : Ends) → i < length os → z ≡ ends-by b v y (getD os i no-order .terms) → ends-from b v z (limits-of (drop (i + 1) os)) ≡ ends-from b v y (limits-of (drop i os))
+pub ends-more : (b : Sides) (v : Merit) (os : List Order) (i : ℕ) (y z : Ends) → i < length os → z ≡ ends-by b v y (getD os i no-order .terms) → ends-from b v z (limits-of (drop (i + 1) os)) ≡ ends-from b v y (limits-of (drop i os))
 ends-more b v os i y z h e =
     ap (λ w. ends-from b v w (limits-of (drop (i + 1) os))) e ∙ ends-one b v y (getD os i no-order .terms) (limits-of (drop (i + 1) os))
     ∙ sym (at-drop-more (λ l. ends-from b v y (limits-of l)) os i no-order h)

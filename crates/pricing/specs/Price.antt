@@ -7,7 +7,7 @@ use Rattle.std.specs.declared.option.Option.{Option}
 use Rattle.std.specs.declared.option.Option.the-variants.{Some, None}
 use Rattle.std.specs.shelf.Lists.{kept-by}
 use Rattle.ranking.specs.Lists.{each}
-use Rattle.pricing.specs.Sides.{Sides, volume, gap, positive, negative, even, limits}
+use Rattle.pricing.specs.Sides.{Sides, volume, gap, positive, negative, balanced, limits}
 
 -- those of some prices at which f is largest, and those at which it is smallest
 abbrev pub largest : (ℕ → ℕ) → List ℕ → List ℕ
@@ -43,10 +43,10 @@ candidates s = smallest (gap s) (largest (volume s) (kept-by (λ p. ltb 0 (volum
 
 -- The span in which the price is sought where candidates differ in sign, or leave nothing over: from the highest with buyers left over to the lowest with sellers left over, or else from the lowest to the highest.
 abbrev pub lower-end : Sides → List ℕ → ℕ
-lower-end s cs = cond (each (even s) cs) (lowest cs) (highest (kept-by (positive s) cs))
+lower-end s cs = cond (each (balanced s) cs) (lowest cs) (highest (kept-by (positive s) cs))
 
 abbrev pub upper-end : Sides → List ℕ → ℕ
-upper-end s cs = cond (each (even s) cs) (highest cs) (lowest (kept-by (negative s) cs))
+upper-end s cs = cond (each (balanced s) cs) (highest cs) (lowest (kept-by (negative s) cs))
 
 -- the price from end to end that is nearest to the reference price
 abbrev pub nearest : ℕ → ℕ → ℕ → ℕ
@@ -60,12 +60,12 @@ chosen s reference cs =
     (nearest (lower-end s cs) (upper-end s cs) reference))
 
 -- no limit order stands, and others stand on both sides
-abbrev pub unlimited : Sides → Bool
-unlimited s = none (limits s) && (not (none (s .buys)) && not (none (s .sells)))
+abbrev pub market-only : Sides → Bool
+market-only s = none (limits s) && (not (none (s .buys)) && not (none (s .sells)))
 
 -- Without a candidate: the reference price if only orders without a limit meet, else none.
 abbrev pub price-of : Sides → ℕ → List ℕ → Option ℕ
-price-of s reference [] = cond (unlimited s) (Some reference) None
+price-of s reference [] = cond (market-only s) (Some reference) None
 price-of s reference (c ∷ cs) = Some (chosen s reference (c ∷ cs))
 
 abbrev pub auction-price : Sides → ℕ → Option ℕ

@@ -53,8 +53,8 @@ positive s p = ltb (supply s p) (demand s p)
 abbrev pub negative : Sides → ℕ → Bool
 negative s p = ltb (demand s p) (supply s p)
 
-abbrev pub even : Sides → ℕ → Bool
-even s p = eqb (demand s p) (supply s p)
+abbrev pub balanced : Sides → ℕ → Bool
+balanced s p = eqb (demand s p) (supply s p)
 
 -- the limit prices that stand in the book
 abbrev pub with-limit : Terms → List ℕ → List ℕ

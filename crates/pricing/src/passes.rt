@@ -2,44 +2,47 @@
 ghost use mathlib.Core.Path.{_≡_};
 ghost use Prim.Native.Nat.{min};
 ghost use Rattle.pricing.specs.Sides.{sides, limits-of, limits};
-ghost use Rattle.pricing.specs.Price.{auction-price, none, nearest, unlimited};
-ghost use Rattle.pricing.specs.Passes.{is-limit, Few, offer-of, better, best-by, best-from, widen, ends-by, ends-from, choice, or-higher, or-lower, nothing, no-ends};
+ghost use Rattle.pricing.specs.Price.{auction-price, none, nearest, market-only};
+ghost use Rattle.pricing.specs.Passes.{is-limit, Few, merit-of, better, best-by, best-from, widen, ends-by, ends-from, choice, or-higher, or-lower, nothing, no-ends};
 use crate::demands::open_at;
 use words::orders::Order;
 use words::sides::Side;
 use words::terms::Terms;
 
-// What a price executes, and the size of the surplus that it leaves.
+// What makes one limit price better than another: what it executes, and how much it leaves over on either side.
 #[derive(Clone, Copy)]
-pub struct Offer {
+pub struct Merit {
     pub volume: u32,
     pub gap: u32,
 }
 
-// Of the candidates: the highest with positive surplus, the lowest with negative, and the lowest and highest with surplus 0.
+// The candidates that the price is chosen by.
 #[derive(Clone, Copy)]
 pub struct Ends {
+    // the highest with a surplus above 0
     pub above: Option<u32>,
+    // the lowest with a surplus below 0
     pub below: Option<u32>,
+    // the lowest and the highest with a surplus of 0
     pub low: Option<u32>,
     pub high: Option<u32>,
 }
 
 // The better of the two: the old one where they are level.
-fn better_of(best: Offer, demand: u32, supply: u32) -> Offer
-    ensures { λ r. ⌜ r ≡ better best (offer-of demand supply) ⌝ }
+fn better_of(best: Merit, demand: u32, supply: u32) -> Merit
+    ensures { λ r. ⌜ r ≡ better best (merit-of demand supply) ⌝ }
 {
     let volume = demand.min(supply);
     let gap = demand.abs_diff(supply);
     if best.volume < volume || (volume == best.volume && gap < best.gap) {
-        Offer { volume, gap }
+        Merit { volume, gap }
     } else {
         best
     }
 }
 
 // The best with the limit of one order more, if it has one.
-fn better_by(buys: &[Order], sells: &[Order], order: Order, best: Offer) -> Offer
+fn better_by(buys: &[Order], sells: &[Order], order: Order, best: Merit) -> Merit
     requires { ⌜ Few (now buys) ⌝ ∗ ⌜ Few (now sells) ⌝ }
     ensures { λ r. ⌜ r ≡ best-by (sides (now (buys .entry)) (now (sells .entry))) best (order .terms) ⌝ }
 {
@@ -55,7 +58,7 @@ fn better_by(buys: &[Order], sells: &[Order], order: Order, best: Offer) -> Offe
 }
 
 // The best over the limits of some orders, and of what was best before.
-fn best_over(buys: &[Order], sells: &[Order], orders: &[Order], start: Offer) -> Offer
+fn best_over(buys: &[Order], sells: &[Order], orders: &[Order], start: Merit) -> Merit
     requires { ⌜ Few (now buys) ⌝ ∗ ⌜ Few (now sells) ⌝ }
     ensures { λ r. ⌜ r ≡ best-from (sides (now (buys .entry)) (now (sells .entry))) start (limits-of (now (orders .entry))) ⌝ }
 {
@@ -85,7 +88,7 @@ fn lower_of(a: Option<u32>, price: u32) -> Option<u32>
 }
 
 // The ends with one limit more, which counts where it is as good as the best.
-fn widened(ends: Ends, best: Offer, price: u32, demand: u32, supply: u32) -> Ends
+fn widened(ends: Ends, best: Merit, price: u32, demand: u32, supply: u32) -> Ends
     ensures { λ r. ⌜ r ≡ widen best ends price demand supply ⌝ }
 {
     let mut wide = ends;
@@ -103,7 +106,7 @@ fn widened(ends: Ends, best: Offer, price: u32, demand: u32, supply: u32) -> End
 }
 
 // The ends with the limit of one order more, if it has one.
-fn widened_by(buys: &[Order], sells: &[Order], order: Order, best: Offer, ends: Ends) -> Ends
+fn widened_by(buys: &[Order], sells: &[Order], order: Order, best: Merit, ends: Ends) -> Ends
     requires { ⌜ Few (now buys) ⌝ ∗ ⌜ Few (now sells) ⌝ }
     ensures { λ r. ⌜ r ≡ ends-by (sides (now (buys .entry)) (now (sells .entry))) best ends (order .terms) ⌝ }
 {
@@ -120,7 +123,7 @@ fn widened_by(buys: &[Order], sells: &[Order], order: Order, best: Offer, ends: 
     }
 }
 
-fn ends_over(buys: &[Order], sells: &[Order], orders: &[Order], best: Offer, start: Ends) -> Ends
+fn ends_over(buys: &[Order], sells: &[Order], orders: &[Order], best: Merit, start: Ends) -> Ends
     requires { ⌜ Few (now buys) ⌝ ∗ ⌜ Few (now sells) ⌝ }
     ensures { λ r. ⌜ r ≡ ends-from (sides (now (buys .entry)) (now (sells .entry))) best start (limits-of (now (orders .entry))) ⌝ }
 {
@@ -176,24 +179,24 @@ fn no_limit(orders: &[Order]) -> bool
 }
 
 // Whether no order has a limit, and orders stand on both sides.
-fn is_unlimited(buys: &[Order], sells: &[Order]) -> bool
-    ensures { λ r. ⌜ r ≡ unlimited (sides (now (buys .entry)) (now (sells .entry))) ⌝ }
+fn is_market_only(buys: &[Order], sells: &[Order]) -> bool
+    ensures { λ r. ⌜ r ≡ market-only (sides (now (buys .entry)) (now (sells .entry))) ⌝ }
 {
     no_limit(buys) && no_limit(sells) && !buys.is_empty() && !sells.is_empty()
 }
 
 // The best over all limits of the book.
-fn best_of(buys: &[Order], sells: &[Order]) -> Offer
+fn best_of(buys: &[Order], sells: &[Order]) -> Merit
     requires { ⌜ Few (now buys) ⌝ ∗ ⌜ Few (now sells) ⌝ }
     ensures { λ r. ⌜ r ≡ best-from (sides (now (buys .entry)) (now (sells .entry))) nothing (limits (sides (now (buys .entry)) (now (sells .entry)))) ⌝ }
 {
-    let nothing = Offer { volume: 0, gap: 0 };
+    let nothing = Merit { volume: 0, gap: 0 };
     let of_buys = best_over(buys, sells, buys, nothing);
     best_over(buys, sells, sells, of_buys)
 }
 
 // The ends over all limits of the book.
-fn ends_of(buys: &[Order], sells: &[Order], best: Offer) -> Ends
+fn ends_of(buys: &[Order], sells: &[Order], best: Merit) -> Ends
     requires { ⌜ Few (now buys) ⌝ ∗ ⌜ Few (now sells) ⌝ }
     ensures { λ r. ⌜ r ≡ ends-from (sides (now (buys .entry)) (now (sells .entry))) best no-ends (limits (sides (now (buys .entry)) (now (sells .entry)))) ⌝ }
 {
@@ -217,7 +220,7 @@ pub(crate) fn auction_price(buys: &[Order], sells: &[Order], reference: u32) -> 
         let ends = ends_of(buys, sells, best);
         return choose(ends, reference);
     }
-    if is_unlimited(buys, sells) {
+    if is_market_only(buys, sells) {
         return Some(reference);
     }
     None

@@ -12,12 +12,12 @@ returns-then-best-gt0 c =
     c .choose .ensures ∙ ap (λ e. choice e (c .args .reference)) (c .ends-of-ends .ensures)
     ∙ passes-find (sides (c .args .buys .now) (c .args .sells .now)) (c .args .reference) (c .best-of-best .result) (c .best-of-best .ensures) (c .if-best-gt0 .taken)
 
-pub returns-then-is-unlimited : need.returns-then-is-unlimited
-returns-then-is-unlimited c =
-    ap (λ u. cond u (Some (c .args .reference)) None) (c .if-is-unlimited .ensures tt)
+pub returns-then-is-market-only : need.returns-then-is-market-only
+returns-then-is-market-only c =
+    ap (λ u. cond u (Some (c .args .reference)) None) (c .if-is-market-only .ensures tt)
     ∙ passes-miss (sides (c .args .buys .now) (c .args .sells .now)) (c .args .reference) (c .best-of-best .result) (c .best-of-best .ensures) (omega arith)
 
 pub returns : need.returns
 returns c =
-    ap (λ u. cond u (Some (c .args .reference)) None) (c .if-is-unlimited .ensures tt)
+    ap (λ u. cond u (Some (c .args .reference)) None) (c .if-is-market-only .ensures tt)
     ∙ passes-miss (sides (c .args .buys .now) (c .args .sells .now)) (c .args .reference) (c .best-of-best .result) (c .best-of-best .ensures) (omega arith)
