@@ -145,19 +145,30 @@ sound_struck last reference s h k = go (auction_price s reference)
 
 -- ---- all that is kept true between calls, of a book
 
-abbrev pub Kept : ℕ → Book → Type 0
-Kept last b =
-    Sound last (vec_items b.buys) × (Sound last (vec_items b.sells) × ((128 ≤ vec_capacity b.buys) × ((128 ≤ vec_capacity b.sells) × ((is_some b.asked ≡ false) × ((last ≤ 60000) × Unit {0})))))
+pub record Kept (last : ℕ) (b : Book) : Type 0 where
+  pub buys_sound : Sound last (vec_items b.buys)
+  pub sells_sound : Sound last (vec_items b.sells)
+  pub buys_room : 128 ≤ vec_capacity b.buys
+  pub sells_room : 128 ≤ vec_capacity b.sells
+  pub clear : is_some b.asked ≡ false
+  pub numbers : last ≤ 60000
 
 pub kept : (a : Auction) → Kept a.last a.book
-kept a = (a.buys_sound, (a.sells_sound, (a.buys_room, (a.sells_room, (a.clear, (a.numbers, tt))))))
+kept a = record {
+  buys_sound = a.buys_sound;
+  sells_sound = a.sells_sound;
+  buys_room = a.buys_room;
+  sells_room = a.sells_room;
+  clear = a.clear;
+  numbers = a.numbers;
+}
 
--- a book with other orders, in the same memory, keeps it where they are sound
 pub kept_by_sound : (last : ℕ) (a : Auction) (b : Book) (s : Sides) → standing_of b ≡ s → Sound last s.buys → Sound last s.sells → ((x : Side) → cap_of x b ≡ cap_of x a.book) → b.asked ≡ a.book.asked → last ≤ 60000 → Kept last b
-kept_by_sound last a b s e h k room asked most = (
-  subst (λ t. Sound last t.buys) (sym e) h,
-  (
-    subst (λ t. Sound last t.sells) (sym e) k,
-    (omega (arith, room Buy, a.buys_room), (omega (arith, room Sell, a.sells_room), (ap is_some asked ∙ a.clear, (most, tt)))),
-  ),
-)
+kept_by_sound last a b s e h k room asked most = record {
+  buys_sound = subst (λ t. Sound last t.buys) (sym e) h;
+  sells_sound = subst (λ t. Sound last t.sells) (sym e) k;
+  buys_room = omega (arith, room Buy, a.buys_room);
+  sells_room = omega (arith, room Sell, a.sells_room);
+  clear = ap is_some asked ∙ a.clear;
+  numbers = most;
+}

@@ -2,7 +2,7 @@
 use Rattle.std.specs.Prelude.{◌≡◌, ℕ, ◌+◌, Bool, cond, not, List, [], ◌∷◌, length, Some, None, Ok, Err, Option, Result, nat_le, nat_lt}
 use Rattle.words.specs.declared.orders.Order.{Order}
 use Rattle.words.specs.declared.refusals.Refusal.{Refusal}
-use Rattle.words.specs.declared.refusals.Refusal.TheVariants.{PriceUnfit, QuantityUnfit, TapeShort, MakingUnfit, SideFull, NumbersUsedUp}
+use Rattle.words.specs.declared.refusals.Refusal.TheVariants.{PriceUnfit, QuantityUnfit, TapeShort, ReferenceUnfit, SideFull, NumbersUsedUp}
 use Rattle.words.specs.declared.sides.Side.{Side}
 use Rattle.words.specs.declared.tape.Trade.{Trade}
 use Rattle.words.specs.declared.terms.Kind.{Kind}
@@ -28,7 +28,7 @@ abbrev pub made_with : ℕ → State
 made_with reference = record { reference = reference; last = 0; sides = sides [] [] }
 
 abbrev pub make_rows : ℕ → List Row
-make_rows reference = (not (is_price reference), MakingUnfit) ∷ []
+make_rows reference = (not (is_price reference), ReferenceUnfit) ∷ []
 
 -- made where nothing is refused and there is memory
 abbrev pub Made : ℕ → Result Auction MakeError → Type 0

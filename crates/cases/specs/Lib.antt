@@ -1,4 +1,3 @@
-pub mod Books
+pub mod Cases
 pub mod Spans
 pub mod Numbers
-pub mod Cases

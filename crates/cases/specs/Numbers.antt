@@ -1,11 +1,11 @@
 -- The numbers and the table of entry, written out. Assumes nothing.
 use Rattle.std.specs.Prelude.{◌≡◌, ℕ, List, [], ◌∷◌, map, Some, None, Option}
 use Rattle.words.specs.declared.phases.Phase.TheVariants.{OpeningCall, Continuous, InterruptionCall, ClosingCall, Ended}
-use Rattle.words.specs.declared.phases.PhaseKind.TheVariants as kinds-of-phase
+use Rattle.words.specs.declared.phases.PhaseKind.TheVariants as phase_kinds
 use Rattle.words.specs.declared.phases.Stage.TheVariants as stages
 use Rattle.words.specs.declared.phases.StrikeResult.TheVariants as results
 use Rattle.words.specs.declared.refusals.Refusal.{Refusal}
-use Rattle.words.specs.declared.refusals.Refusal.TheVariants.{PriceUnfit, QuantityUnfit, CodeUnknown, PairNeverEnters, MemberUnfit, TimeUnfit, TapeShort, MakingUnfit, VersionUnknown, LetterUnknown, LengthUnfit, RecordCutShort, MakingMisplaced, ClientReferenceUnfit, OfferUnfit, BidPriceUnfit, BidMoneyUnfit, TimeRunsBack, CallNotOfPhase, PairNotOfPhase, OrderNotStanding, SideFull, NoLimitOpposite, WouldTrade, NotFilledWhole, AmendedPriceUnfit, StrikeTooEarly, NumbersUsedUp, SaleFull, BidNotOwn}
+use Rattle.words.specs.declared.refusals.Refusal.TheVariants.{PriceUnfit, QuantityUnfit, CodeUnknown, PairNeverEnters, MemberUnfit, TimeUnfit, TapeShort, ReferenceUnfit, VersionUnknown, LetterUnknown, LengthUnfit, RecordCutShort, MakingMisplaced, ClientReferenceUnfit, OfferUnfit, BidPriceUnfit, BidMoneyUnfit, TimeRunsBack, CallNotOfPhase, PairNotOfPhase, OrderNotStanding, SideFull, NoLimitOpposite, WouldTrade, NotFilledWhole, AmendedPriceUnfit, StrikeTooEarly, NumbersUsedUp, SaleFull, BidNotOwn}
 use Rattle.words.specs.declared.terms.Kind.{Kind}
 use Rattle.words.specs.declared.terms.Kind.TheVariants.{Limit, Market, MarketToLimit}
 use Rattle.words.specs.declared.terms.Condition.{Condition}
@@ -22,8 +22,8 @@ refused_with (Some why) = refusal_number why
 -- what a pair is refused with in a call and in continuous trading
 abbrev pub pair : Kind → Condition → List ℕ
 pair k c =
-    refused_with (entry_refusal (entry_of k c kinds-of-phase.Call)) ∷
-    refused_with (entry_refusal (entry_of k c kinds-of-phase.Continuous)) ∷ []
+    refused_with (entry_refusal (entry_of k c phase_kinds.Call)) ∷
+    refused_with (entry_refusal (entry_of k c phase_kinds.Continuous)) ∷ []
 
 -- and a kind with each condition: none, immediate-or-cancel, fill-or-kill, book-or-cancel
 abbrev pub row : Kind → List (List ℕ)
@@ -45,12 +45,12 @@ pub record WorkedNumbers : Type 0 where
   pub phases : map phase_code (OpeningCall ∷ Continuous ∷ InterruptionCall ∷ ClosingCall ∷ Ended ∷ []) ≡ 1 ∷ 2 ∷ 3 ∷ 4 ∷ 5 ∷ []
   pub kinds_of_phases :
       map phase_kind (OpeningCall ∷ Continuous ∷ InterruptionCall ∷ ClosingCall ∷ Ended ∷ [])
-      ≡ Some kinds-of-phase.Call ∷ Some kinds-of-phase.Continuous ∷ Some kinds-of-phase.Call ∷ Some kinds-of-phase.Call ∷ None ∷ []
+      ≡ Some phase_kinds.Call ∷ Some phase_kinds.Continuous ∷ Some phase_kinds.Call ∷ Some phase_kinds.Call ∷ None ∷ []
   pub stages_of_a_call : map stage_code (stages.First ∷ stages.Extended ∷ stages.Held ∷ []) ≡ 1 ∷ 2 ∷ 3 ∷ []
   pub results_of_a_strike : map strike_result_code (results.Executed ∷ results.NoPrice ∷ results.Extended ∷ results.Held ∷ []) ≡ 1 ∷ 2 ∷ 3 ∷ 4 ∷ []
   pub refused_for_what_is_brought :
       map refusal_number (
-      PriceUnfit ∷ QuantityUnfit ∷ CodeUnknown ∷ PairNeverEnters ∷ MemberUnfit ∷ TimeUnfit ∷ TapeShort ∷ MakingUnfit ∷
+      PriceUnfit ∷ QuantityUnfit ∷ CodeUnknown ∷ PairNeverEnters ∷ MemberUnfit ∷ TimeUnfit ∷ TapeShort ∷ ReferenceUnfit ∷
       VersionUnknown ∷ LetterUnknown ∷ LengthUnfit ∷ RecordCutShort ∷ MakingMisplaced ∷ ClientReferenceUnfit ∷
       OfferUnfit ∷ BidPriceUnfit ∷ BidMoneyUnfit ∷ [])
       ≡ 1 ∷ 2 ∷ 3 ∷ 4 ∷ 5 ∷ 6 ∷ 7 ∷ 8 ∷ 9 ∷ 10 ∷ 11 ∷ 12 ∷ 13 ∷ 14 ∷ 15 ∷ 16 ∷ 17 ∷ []

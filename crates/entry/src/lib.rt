@@ -1,2 +1,4 @@
+#![tactic(auto)]
+
 // Which orders a phase takes.
 pub mod table;

@@ -1,6 +1,6 @@
 -- Ranges that reach a part of their anchor to either side of it (Articles 42 to 44). Assumes nothing.
 use Rattle.std.specs.Prelude.{ℕ, ◌*◌, Bool, not, ◌&&◌, List, [], ◌∷◌, nat_le}
-use Rattle.words.specs.declared.refusals.Refusal.TheVariants.{MakingUnfit}
+use Rattle.words.specs.declared.refusals.Refusal.TheVariants.{ReferenceUnfit}
 use Rattle.words.specs.Refused.{Row}
 use Rattle.ranges.specs.Sets.{Ranges, distance}
 
@@ -10,7 +10,7 @@ is_width w = nat_le 1 w && nat_le w 1000
 
 -- a percent set is made of two widths
 abbrev pub make_rows : ℕ → ℕ → List Row
-make_rows static_width dynamic_width = (not (is_width static_width && is_width dynamic_width), MakingUnfit) ∷ []
+make_rows static_width dynamic_width = (not (is_width static_width && is_width dynamic_width), ReferenceUnfit) ∷ []
 
 -- at most the width's part of the anchor away from it
 abbrev pub within : ℕ → ℕ → ℕ → Bool

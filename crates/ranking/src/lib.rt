@@ -1,3 +1,5 @@
+#![tactic(auto)]
+
 // Ranking by any total order, over any type of entry.
 pub mod ranks;
 pub mod walks;

@@ -27,8 +27,8 @@ pub trait Open {
 // One step of a walk: takes a quantity from the entry at a place, and goes on to the next where nothing is left of it.
 pub fn pass<T: Open>(entries: &mut [T], at: usize, quantity: u32) -> usize
     requires { at < length entries.old }
-    ensures next { (d : T) → result ≡ (if nat_lt quantity (left (slice_index_or entries.old at d)) then at else at + 1) }
-    ensures after { (d : T) → entries.new ≡ slice_set entries.old at (lowered (slice_index_or entries.old at d) quantity) }
+    ensures next { (d : T) → result ≡ (if nat_lt quantity (T.left (slice_index_or entries.old at d)) then at else at + 1) }
+    ensures after { (d : T) → entries.new ≡ slice_set entries.old at (T.lowered (slice_index_or entries.old at d) quantity) }
 {
     let had = entries[at].left();
     entries[at].lower(quantity);
@@ -37,8 +37,8 @@ pub fn pass<T: Open>(entries: &mut [T], at: usize, quantity: u32) -> usize
 
 // Takes a volume down the slice, from each entry what it holds, and returns what they do not hold of it.
 pub fn walk<T: Open>(entries: &mut [T], volume: u32) -> u32
-    ensures after { entries.new ≡ walked left lowered volume entries.old }
-    ensures value { result ≡ volume - total left entries.old }
+    ensures after { entries.new ≡ walked T.left T.lowered volume entries.old }
+    ensures value { result ≡ volume - total T.left entries.old }
 {
     let mut rest = volume;
     for e in entries.iter_mut() {

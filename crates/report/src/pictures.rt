@@ -32,7 +32,7 @@ pub(crate) fn prices_of(
     if let Some(price) = price {
         prices.push(price)?;
     }
-    prices.sort();
+    prices.sort_unstable();
     prices.dedup();
     prices.reverse();
     Ok(prices)

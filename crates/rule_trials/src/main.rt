@@ -1,3 +1,5 @@
+#![tactic(auto)]
+
 // What the range sets, the table of entry and the numbered words answer, printed to be held against answers from elsewhere.
 use entry::table::entry_for;
 use ranges::open::OpenSet;
@@ -75,7 +77,7 @@ const REFUSALS: [Refusal; 30] = [
     Refusal::MemberUnfit,
     Refusal::TimeUnfit,
     Refusal::TapeShort,
-    Refusal::MakingUnfit,
+    Refusal::ReferenceUnfit,
     Refusal::VersionUnknown,
     Refusal::LetterUnknown,
     Refusal::LengthUnfit,

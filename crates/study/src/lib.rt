@@ -1,3 +1,5 @@
+#![tactic(auto)]
+
 // Studies of an order book: a reference price, orders and questions, written as plain text.
 mod drafts;
 pub mod faults;

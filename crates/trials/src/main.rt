@@ -1,3 +1,5 @@
+#![tactic(auto)]
+
 // Studies, answered one after the other: what is printed is held against answers from elsewhere.
 // The studies of the input are parted by lines of three dashes. A study with a question is answered by it, another by its call.
 use anyhow::anyhow;

@@ -1,3 +1,5 @@
+#![tactic(auto)]
+
 // whatif: what would a call auction give with one more order in it?
 use anyhow::anyhow;
 use report::reports::report;

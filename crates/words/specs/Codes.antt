@@ -13,7 +13,7 @@ use Rattle.words.specs.declared.phases.Stage.TheVariants as stages
 use Rattle.words.specs.declared.phases.StrikeResult.{StrikeResult}
 use Rattle.words.specs.declared.phases.StrikeResult.TheVariants as results
 use Rattle.words.specs.declared.refusals.Refusal.{Refusal}
-use Rattle.words.specs.declared.refusals.Refusal.TheVariants.{PriceUnfit, QuantityUnfit, CodeUnknown, PairNeverEnters, MemberUnfit, TimeUnfit, TapeShort, MakingUnfit, VersionUnknown, LetterUnknown, LengthUnfit, RecordCutShort, MakingMisplaced, ClientReferenceUnfit, OfferUnfit, BidPriceUnfit, BidMoneyUnfit, TimeRunsBack, CallNotOfPhase, PairNotOfPhase, OrderNotStanding, SideFull, NoLimitOpposite, WouldTrade, NotFilledWhole, AmendedPriceUnfit, StrikeTooEarly, NumbersUsedUp, SaleFull, BidNotOwn}
+use Rattle.words.specs.declared.refusals.Refusal.TheVariants.{PriceUnfit, QuantityUnfit, CodeUnknown, PairNeverEnters, MemberUnfit, TimeUnfit, TapeShort, ReferenceUnfit, VersionUnknown, LetterUnknown, LengthUnfit, RecordCutShort, MakingMisplaced, ClientReferenceUnfit, OfferUnfit, BidPriceUnfit, BidMoneyUnfit, TimeRunsBack, CallNotOfPhase, PairNotOfPhase, OrderNotStanding, SideFull, NoLimitOpposite, WouldTrade, NotFilledWhole, AmendedPriceUnfit, StrikeTooEarly, NumbersUsedUp, SaleFull, BidNotOwn}
 
 -- the sides
 abbrev pub side_code : Side → ℕ
@@ -63,7 +63,7 @@ refusal_number PairNeverEnters = 4
 refusal_number MemberUnfit = 5
 refusal_number TimeUnfit = 6
 refusal_number TapeShort = 7
-refusal_number MakingUnfit = 8
+refusal_number ReferenceUnfit = 8
 refusal_number VersionUnknown = 9
 refusal_number LetterUnknown = 10
 refusal_number LengthUnfit = 11
@@ -117,7 +117,7 @@ pub record CodesAgree : Type 0 where
 abbrev pub refusals : List Refusal
 refusals =
     PriceUnfit ∷ QuantityUnfit ∷ CodeUnknown ∷ PairNeverEnters ∷ MemberUnfit ∷
-    TimeUnfit ∷ TapeShort ∷ MakingUnfit ∷ VersionUnknown ∷ LetterUnknown ∷
+    TimeUnfit ∷ TapeShort ∷ ReferenceUnfit ∷ VersionUnknown ∷ LetterUnknown ∷
     LengthUnfit ∷ RecordCutShort ∷ MakingMisplaced ∷ ClientReferenceUnfit ∷ OfferUnfit ∷
     BidPriceUnfit ∷ BidMoneyUnfit ∷ TimeRunsBack ∷ CallNotOfPhase ∷ PairNotOfPhase ∷
     OrderNotStanding ∷ SideFull ∷ NoLimitOpposite ∷ WouldTrade ∷ NotFilledWhole ∷

@@ -20,7 +20,7 @@ pub enum Refusal {
     // a tape of fewer than 256 places
     TapeShort,
     // a closing price, reference price or width out of range, where something is made with it
-    MakingUnfit,
+    ReferenceUnfit,
     // a call file that does not begin with version byte 1
     VersionUnknown,
     // a record with an unknown letter
@@ -79,7 +79,7 @@ impl Refusal {
             Refusal::MemberUnfit => 5,
             Refusal::TimeUnfit => 6,
             Refusal::TapeShort => 7,
-            Refusal::MakingUnfit => 8,
+            Refusal::ReferenceUnfit => 8,
             Refusal::VersionUnknown => 9,
             Refusal::LetterUnknown => 10,
             Refusal::LengthUnfit => 11,

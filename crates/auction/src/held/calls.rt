@@ -94,7 +94,7 @@ impl Auction {
         ensures { Made reference result }
     {
         if reference < 1 || reference > 1_000_000 {
-            return Err(MakeError::Refused(Refusal::MakingUnfit));
+            return Err(MakeError::Refused(Refusal::ReferenceUnfit));
         }
         let Ok(book) = Book::new(heap) else {
             return Err(MakeError::NoMemory);

@@ -13,7 +13,7 @@ impl PercentSet {
         ensures law_of_ranges { IfOk result (λ set. LawOfPercent static_width dynamic_width (percent_meaning set)) }
     {
         if static_width < 1 || static_width > 1000 || dynamic_width < 1 || dynamic_width > 1000 {
-            return Err(Refusal::MakingUnfit);
+            return Err(Refusal::ReferenceUnfit);
         }
         Ok(PercentSet {
             static_width,

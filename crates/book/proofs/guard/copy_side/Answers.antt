@@ -6,7 +6,7 @@ use Rattle.book.proofs.guard.copy_side.Goals as goal
 pub loop-order-preserved : goal.loop-order-preserved
 loop-order-preserved c =
     let l = c.loop-order in
-    (c.push-reserved.ensures.items ∙ ap (λ xs. xs ++ get_or c.args.orders.now l.order-index no_order ∷ []) l.invariant.0 ∙ sym (take_more c.args.orders.now l.order-index no_order c.loop-order-test.true), search rules, search rules, search rules)
+    (c.push_reserved.ensures.items ∙ ap (λ xs. xs ++ get_or c.args.orders.now l.order-index no_order ∷ []) l.invariant.0 ∙ sym (take_more c.args.orders.now l.order-index no_order c.loop-order-test.true), search rules, search rules, search rules)
 
 pub returns : goal.returns
 returns c = record {

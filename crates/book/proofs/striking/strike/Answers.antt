@@ -7,17 +7,17 @@ use Rattle.book.specs.Striking.{trades_of, struck_of}
 use Rattle.book.proofs.Struck.{struck_after}
 use Rattle.book.proofs.striking.strike.Goals as goal
 
-pub returns-then-is-some : goal.returns-then-is-some
-returns-then-is-some c =
+pub returns-then-is_some : goal.returns-then-is_some
+returns-then-is_some c =
     let reference = c.args.reference in
-    let seen = ap₂ sides c.as-slice.ensures.value c.as-slice-2.ensures.value in
-    let value = c.strike-orders-struck.ensures.value ∙ ap (λ s. struck_of s reference) seen in
-    let lines = c.strike-orders-struck.ensures.lines ∙ ap (λ s. written (trades_of s reference) c.args.tape.now) seen in
+    let seen = ap₂ sides c.as_slice.ensures.value c.as_slice-2.ensures.value in
+    let value = c.strike_orders-struck.ensures.value ∙ ap (λ s. struck_of s reference) seen in
+    let lines = c.strike_orders-struck.ensures.lines ∙ ap (λ s. written (trades_of s reference) c.args.tape.now) seen in
     record {
       value = value;
       lines = lines;
-      standing = struck_after (standing_of c.args.book.now) _ reference c.strike-orders-struck.result c.args.tape.now c.strike-orders-struck.new.tape _ value lines refl (sym c.if-is-some.ensures) c.settle-by.ensures.standing;
+      standing = struck_after (standing_of c.args.book.now) _ reference c.strike_orders-struck.result c.args.tape.now c.strike_orders-struck.new.tape _ value lines refl (sym c.if-is_some.ensures) c.settle_by.ensures.standing;
       asked = search rules;
-      capacity = c.settle-by.ensures.capacity;
+      capacity = c.settle_by.ensures.capacity;
       law_of_price = search rules;
     }

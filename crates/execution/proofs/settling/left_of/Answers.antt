@@ -7,7 +7,7 @@ use Rattle.execution.proofs.settling.left_of.Goals as goal
 pub loop-line-preserved : goal.loop-line-preserved
 loop-line-preserved c =
     let more = at_drop_more (traded c.args.side c.args.order.number) c.args.lines.now c.loop-line.line-index (record { buy = 0; sell = 0; price = 0; quantity = 0 }) c.loop-line-test.true in
-    omega (arith, c.part-of.ensures, c.saturating-sub-left.ensures)
+    omega (arith, c.part_of.ensures, c.saturating_sub-left.ensures)
 
 pub returns : goal.returns
 returns c =

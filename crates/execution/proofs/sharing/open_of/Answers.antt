@@ -5,15 +5,15 @@ use Rattle.execution.specs.Shares.{open_of}
 use Rattle.execution.proofs.Taken.{open_under}
 use Rattle.execution.proofs.sharing.open_of.Goals as goal
 
-pub overflow-add-sum : goal.overflow-add-sum
-overflow-add-sum c =
+pub overflow_add-sum : goal.overflow_add-sum
+overflow_add-sum c =
     let more = at_drop_more (open_of c.args.number) c.args.orders.now c.loop-order.order-index no_order c.loop-order-test.true in
-    omega (arith, open_under c.args.number c.args.orders.now, c.part-under-sum.ensures, c.requires)
+    omega (arith, open_under c.args.number c.args.orders.now, c.part_under-sum.ensures, c.requires)
 
 pub loop-order-preserved : goal.loop-order-preserved
 loop-order-preserved c =
     let more = at_drop_more (open_of c.args.number) c.args.orders.now c.loop-order.order-index no_order c.loop-order-test.true in
-    omega (arith, c.part-under-sum.ensures)
+    omega (arith, c.part_under-sum.ensures)
 
 pub returns : goal.returns
 returns c =

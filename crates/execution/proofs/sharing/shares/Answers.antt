@@ -17,7 +17,7 @@ so x y bs ss p n v d s r same e f g h =
     h ∙ (λ i. share n (vol i) (ready x p (standing (sym same i) (sides bs ss)))) ∙ sym (traded_share (sides bs ss) p x n)
 
 pub returns-in-Buy : goal.returns-in-Buy
-returns-in-Buy c = so c.args.side Buy c.args.buys.now c.args.sells.now c.args.price c.args.number c.min-volume.result c.open-at-demand.result c.open-at-supply.result _ c.in-Buy.is c.open-at-demand.ensures.value c.open-at-supply.ensures.value c.min-volume.ensures c.share-on.ensures.value
+returns-in-Buy c = so c.args.side Buy c.args.buys.now c.args.sells.now c.args.price c.args.number c.min-volume.result c.open_at-demand.result c.open_at-supply.result _ c.in-Buy.is c.open_at-demand.ensures.value c.open_at-supply.ensures.value c.min-volume.ensures c.share_on.ensures.value
 
 pub returns-in-Sell : goal.returns-in-Sell
-returns-in-Sell c = so c.args.side Sell c.args.buys.now c.args.sells.now c.args.price c.args.number c.min-volume.result c.open-at-demand.result c.open-at-supply.result _ c.in-Sell.is c.open-at-demand.ensures.value c.open-at-supply.ensures.value c.min-volume.ensures c.share-on-in-Sell.ensures.value
+returns-in-Sell c = so c.args.side Sell c.args.buys.now c.args.sells.now c.args.price c.args.number c.min-volume.result c.open_at-demand.result c.open_at-supply.result _ c.in-Sell.is c.open_at-demand.ensures.value c.open_at-supply.ensures.value c.min-volume.ensures c.share_on-in-Sell.ensures.value

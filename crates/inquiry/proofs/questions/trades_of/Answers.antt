@@ -12,4 +12,4 @@ returns c =
     let after = ap (λ z. z.0) three in
     let lines = ap (λ z. z.1) three in
     let value = same_reply _ _ (ap (λ z. z.2) three) in
-    record { step = λ j. (after j, lines j, value j); law-of-call = c.in-Ok.ensures.law-of-call }
+    record { step = λ j. (after j, lines j, value j); law_of_call = c.in-Ok.ensures.law_of_call }

@@ -18,5 +18,5 @@ returns c =
     record {
       state = c.in-Ok.ensures.state;
       reply = λ j. (lines j, value j);
-      law-of-call = subst (λ o. LawOfCall (joined s.sides o) s.reference c.in-Ok.struck c.preview.new.tape) (given c.args.asked c.requires.0 _ _ c.kind.ensures c.price_in.ensures) c.in-Ok.ensures.law-of-call;
+      law_of_call = subst (λ o. LawOfCall (joined s.sides o) s.reference c.in-Ok.struck c.preview.new.tape) (given c.args.asked c.requires.0 _ _ c.kind.ensures c.price_in.ensures) c.in-Ok.ensures.law_of_call;
     }

@@ -5,13 +5,13 @@ use Rattle.ranking.proofs.Lists.{under}
 use Rattle.pricing.specs.Sides.{open_at, can_trade}
 use Rattle.pricing.proofs.demands.open_at.Goals as goal
 
-pub overflow-add-sum : goal.overflow-add-sum
-overflow-add-sum c = omega (arith, under (can_trade c.args.side c.args.price (get_or c.args.orders.now c.loop-order.order-index no_order)) _ _ c.ready-at-sum.ensures, c.requires.large c.loop-order.order-index)
+pub overflow_add-sum : goal.overflow_add-sum
+overflow_add-sum c = omega (arith, under (can_trade c.args.side c.args.price (get_or c.args.orders.now c.loop-order.order-index no_order)) _ _ c.ready_at-sum.ensures, c.requires.large c.loop-order.order-index)
 
 pub loop-order-preserved : goal.loop-order-preserved
 loop-order-preserved c =
     let more = at_drop_more (open_at c.args.side c.args.price) c.args.orders.now c.loop-order.order-index no_order c.loop-order-test.true in
-    omega (arith, under (can_trade c.args.side c.args.price (get_or c.args.orders.now c.loop-order.order-index no_order)) _ _ c.ready-at-sum.ensures, c.requires.large c.loop-order.order-index)
+    omega (arith, under (can_trade c.args.side c.args.price (get_or c.args.orders.now c.loop-order.order-index no_order)) _ _ c.ready_at-sum.ensures, c.requires.large c.loop-order.order-index)
 
 pub returns : goal.returns
 returns c =

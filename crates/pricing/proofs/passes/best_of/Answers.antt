@@ -9,5 +9,5 @@ returns c =
     let bs = c.args.buys.now in
     let ss = c.args.sells.now in
     let b = sides bs ss in
-    c.best-over.ensures ∙ ap (λ y. best_from b y (limits_of ss)) c.best-over-of-buys.ensures
+    c.best_over.ensures ∙ ap (λ y. best_from b y (limits_of ss)) c.best_over-of_buys.ensures
     ∙ sym (folded_append (λ y p. better y (merit_of (demand b p) (supply b p))) nothing (limits_of bs) (limits_of ss))

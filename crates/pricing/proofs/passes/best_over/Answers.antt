@@ -7,7 +7,7 @@ use Rattle.pricing.proofs.passes.best_over.Goals as goal
 
 pub loop-order-preserved : goal.loop-order-preserved
 loop-order-preserved c =
-    best_more (sides c.args.buys.now c.args.sells.now) c.args.orders.now c.loop-order.order-index c.loop-order.best _ c.loop-order-test.true c.better-by-best.ensures
+    best_more (sides c.args.buys.now c.args.sells.now) c.args.orders.now c.loop-order.order-index c.loop-order.best _ c.loop-order-test.true c.better_by-best.ensures
     ∙ c.loop-order.invariant
 
 pub returns : goal.returns

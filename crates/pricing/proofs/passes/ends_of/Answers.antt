@@ -9,5 +9,5 @@ returns c =
     let bs = c.args.buys.now in
     let ss = c.args.sells.now in
     let b = sides bs ss in
-    c.ends-over.ensures ∙ ap (λ y. ends_from b c.args.best y (limits_of ss)) c.ends-over-of-buys.ensures
+    c.ends_over.ensures ∙ ap (λ y. ends_from b c.args.best y (limits_of ss)) c.ends_over-of_buys.ensures
     ∙ sym (folded_append (λ e p. widen c.args.best e p (demand b p) (supply b p)) no_ends (limits_of bs) (limits_of ss))

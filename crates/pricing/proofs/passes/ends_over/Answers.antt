@@ -7,7 +7,7 @@ use Rattle.pricing.proofs.passes.ends_over.Goals as goal
 
 pub loop-order-preserved : goal.loop-order-preserved
 loop-order-preserved c =
-    ends_more (sides c.args.buys.now c.args.sells.now) c.args.best c.args.orders.now c.loop-order.order-index c.loop-order.ends _ c.loop-order-test.true c.widened-by-ends.ensures
+    ends_more (sides c.args.buys.now c.args.sells.now) c.args.best c.args.orders.now c.loop-order.order-index c.loop-order.ends _ c.loop-order-test.true c.widened_by-ends.ensures
     ∙ c.loop-order.invariant
 
 pub returns : goal.returns

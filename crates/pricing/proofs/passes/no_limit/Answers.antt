@@ -6,10 +6,10 @@ use Rattle.pricing.proofs.Scans.{none_found, none_more}
 use Rattle.pricing.proofs.passes.no_limit.Goals as goal
 
 pub loop-order-preserved : goal.loop-order-preserved
-loop-order-preserved c = none_more c.args.orders.now c.loop-order.order-index c.loop-order-test.true (sym c.if-is-limit.ensures) ∙ c.loop-order.invariant
+loop-order-preserved c = none_more c.args.orders.now c.loop-order.order-index c.loop-order-test.true (sym c.if-is_limit.ensures) ∙ c.loop-order.invariant
 
-pub returns-then-is-limit : goal.returns-then-is-limit
-returns-then-is-limit c = sym (none_found c.args.orders.now c.loop-order.order-index c.loop-order-test.true (sym c.if-is-limit.ensures)) ∙ c.loop-order.invariant
+pub returns-then-is_limit : goal.returns-then-is_limit
+returns-then-is_limit c = sym (none_found c.args.orders.now c.loop-order.order-index c.loop-order-test.true (sym c.if-is_limit.ensures)) ∙ c.loop-order.invariant
 
 pub returns : goal.returns
 returns c = sym (at_drop_all (λ l. none (limits_of l)) c.args.orders.now c.loop-order.order-index c.loop-order-test.false) ∙ c.loop-order.invariant

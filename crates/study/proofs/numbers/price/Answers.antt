@@ -8,11 +8,11 @@ use Rattle.study.proofs.numbers.price.Goals as goal
 pub returns-then-point-word : goal.returns-then-point-word
 returns-then-point-word c =
     let w = c.args.word.now in
-    let value : c.with-decimals.result ≡ price_of w = pointed w c.run-point.result c.with-decimals.result c.run-point.ensures.value c.if-point-word.true c.with-decimals.ensures in
-    record { value = value; written = price_written w c.with-decimals.result value }
+    let value : c.with_decimals.result ≡ price_of w = pointed w c.run-point.result c.with_decimals.result c.run-point.ensures.value c.if-point-word.true c.with_decimals.ensures in
+    record { value = value; written = price_written w c.with_decimals.result value }
 
-pub returns-then-not-is-number-word : goal.returns-then-not-is-number-word
-returns-then-not-is-number-word c =
+pub returns-then-not-is_number_word : goal.returns-then-not-is_number_word
+returns-then-not-is_number_word c =
     let w = c.args.word.now in
     let value : Err PriceMalformed ≡ price_of w = search rules in
     record { value = value; written = price_written w (Err PriceMalformed) value }

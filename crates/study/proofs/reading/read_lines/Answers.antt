@@ -7,7 +7,7 @@ use Rattle.study.proofs.reading.read_lines.Goals as goal
 pub loop-line-preserved : goal.loop-line-preserved
 loop-line-preserved c =
     let cut = c.in-Some.ensures in
-    let after = c.in-ok-take.ensures in
+    let after = c.in_ok-take.ensures in
     let inv = c.loop-line.invariant in (
       read_more c.loop-line.number (view c.loop-line.draft) (view c.take.new.self) (lines_of c.loop-line.rest.now) (lines_of c.in-Some.after.now) c.in-Some.line.now cut.lines after.step ∙ inv.0,
       count_more c.loop-line.number _ (lines_of c.loop-line.rest.now) (lines_of c.in-Some.after.now) c.in-Some.line.now cut.lines inv.1,
@@ -17,7 +17,7 @@ loop-line-preserved c =
 
 pub returns : goal.returns
 returns c =
-    let cut = c.in-default.ensures in
+    let cut = c.in_default.ensures in
     let inv = c.loop-line.invariant in
     record {
       read = sym inv.0 ∙ read_none c.loop-line.number (view c.loop-line.draft) (lines_of c.loop-line.rest.now) cut.lines;

@@ -4,10 +4,10 @@ use Rattle.study.proofs.reading.read_study.Goals as goal
 
 pub returns : goal.returns
 returns c =
-    let r = c.read-all.result in
+    let r = c.read_all.result in
     let t = c.args.text.now in
     record {
-      value = c.read-all.ensures;
-      sound = answer_sound r t c.read-all.ensures;
-      written = answer_told r t c.read-all.ensures;
+      value = c.read_all.ensures;
+      sound = answer_sound r t c.read_all.ensures;
+      written = answer_told r t c.read_all.ensures;
     }

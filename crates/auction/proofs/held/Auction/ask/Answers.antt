@@ -11,28 +11,36 @@ use Rattle.auction.proofs.held.Auction.ask.Goals as goal
 pub ask-requires : goal.ask-requires
 ask-requires c =
     let a = c.args.self.now in
-    let o = c.in-ok-order.order in
-    let fit = c.in-ok-order.ensures.fit in
+    let o = c.in_ok-order.order in
+    let fit = c.in_ok-order.ensures.fit in
     let three = few_joined a.last o.side (standing_of a.book) o a.buys_sound a.sells_sound (omega (arith, fit.1, ap (λ z. z.quantity) fit.0)) in
     (omega (arith, a.buys_sound.0, a.book.buys.ok.0), (omega (arith, a.sells_sound.0, a.book.sells.ok.0), (three.0, three.1)))
 
-pub invariant-of-self : goal.invariant-of-self
-invariant-of-self c =
+pub invariant_of-self : goal.invariant_of-self
+invariant_of-self c =
     let a = c.args.self.now in
-    subst (Kept a.last) (sym (c.ask.ensures.after ∙ empty_again a.book a.clear)) (kept a)
+    let k = subst (Kept a.last) (sym (c.ask.ensures.after ∙ empty_again a.book a.clear)) (kept a) in
+    record {
+      buys_sound = k.buys_sound;
+      sells_sound = k.sells_sound;
+      buys_room = k.buys_room;
+      sells_room = k.sells_room;
+      clear = k.clear;
+      numbers = k.numbers;
+    }
 
 pub returns : goal.returns
 returns c =
     let a = c.args.self.now in
     let s = standing_of a.book in
-    let fit = c.in-ok-order.ensures.fit in
+    let fit = c.in_ok-order.ensures.fit in
     let same = c.ask.ensures.after ∙ empty_again a.book a.clear in
     record {
       same = same;
       state = ap (λ b. record { reference = a.reference; last = a.last; sides = standing_of b }) same;
       reply = ap Ok (c.ask.ensures.value ∙ ap (λ o. answer_of s o a.reference) fit.0) ∙ ap (ask_by (view a) c.args.side c.args.kind c.args.price c.args.quantity) (sym fit.2);
-      law-of-answer =
-          let o = c.in-ok-order.order in
+      law_of_answer =
+          let o = c.in_ok-order.order in
           let apart = apart_joined a.last o.side s o a.buys_sound a.sells_sound (ap (λ z. z.number) fit.0) in
           subst (λ z. LawOfAnswer (joined s z) z a.reference c.ask.result) fit.0 (answer_law (joined s o) a.reference o c.ask.result apart.0 apart.1 (in_joined o.side s o) c.ask.ensures.value c.ask.ensures.law_of_price);
     }

@@ -4,13 +4,21 @@ use Rattle.book.specs.Books.{standing_of, joined}
 use Rattle.auction.proofs.Sounds.{sound_joined, kept_by_sound}
 use Rattle.auction.proofs.held.Auction.enter.Goals as goal
 
-pub invariant-of-self : goal.invariant-of-self
-invariant-of-self c =
+pub invariant_of-self : goal.invariant_of-self
+invariant_of-self c =
     let a = c.args.self.now in
-    let o = c.in-ok-order.order in
+    let o = c.in_ok-order.order in
     let s = standing_of a.book in
-    let fit = c.in-ok-order.ensures.fit in
+    let fit = c.in_ok-order.ensures.fit in
     let at : o.side ≡ c.args.side = ap (λ z. z.side) fit.0 in
     let room : length (standing o.side s) < 128 = subst (λ x. length (standing x s) < 128) (sym at) (omega (arith, ap length c.orders.ensures)) in
     let both = sound_joined a.last o.side s o a.buys_sound a.sells_sound room (ap (λ z. z.number) fit.0) (omega (arith, fit.1, ap (λ z. z.quantity) fit.0)) in
-    kept_by_sound (a.last + 1) a c.enter.new.self (joined s o) c.enter.ensures.standing both.0 both.1 c.enter.ensures.capacity c.enter.ensures.asked (omega arith)
+    let k = kept_by_sound (a.last + 1) a c.enter.new.self (joined s o) c.enter.ensures.standing both.0 both.1 c.enter.ensures.capacity c.enter.ensures.asked (omega arith) in
+    record {
+      buys_sound = k.buys_sound;
+      sells_sound = k.sells_sound;
+      buys_room = k.buys_room;
+      sells_room = k.sells_room;
+      clear = k.clear;
+      numbers = k.numbers;
+    }

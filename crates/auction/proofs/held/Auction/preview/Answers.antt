@@ -13,15 +13,23 @@ use Rattle.auction.proofs.held.Auction.preview.Goals as goal
 pub preview-requires : goal.preview-requires
 preview-requires c =
     let a = c.args.self.now in
-    let o = c.in-ok-order.order in
-    let fit = c.in-ok-order.ensures.fit in
+    let o = c.in_ok-order.order in
+    let fit = c.in_ok-order.ensures.fit in
     let three = few_joined a.last o.side (standing_of a.book) o a.buys_sound a.sells_sound (omega (arith, fit.1, ap (λ z. z.quantity) fit.0)) in
     (omega (arith, a.buys_sound.0, a.book.buys.ok.0), (omega (arith, a.sells_sound.0, a.book.sells.ok.0), (three.0, (three.1, omega (arith, three.2)))))
 
-pub invariant-of-self : goal.invariant-of-self
-invariant-of-self c =
+pub invariant_of-self : goal.invariant_of-self
+invariant_of-self c =
     let a = c.args.self.now in
-    subst (Kept a.last) (sym (c.preview.ensures.after ∙ empty_again a.book a.clear)) (kept a)
+    let k = subst (Kept a.last) (sym (c.preview.ensures.after ∙ empty_again a.book a.clear)) (kept a) in
+    record {
+      buys_sound = k.buys_sound;
+      sells_sound = k.sells_sound;
+      buys_room = k.buys_room;
+      sells_room = k.sells_room;
+      clear = k.clear;
+      numbers = k.numbers;
+    }
 
 pub returns : goal.returns
 returns c =
@@ -29,18 +37,18 @@ returns c =
     let tape = c.args.tape.now in
     let s = standing_of a.book in
     let k = c.args.kind in
-    let fit = c.in-ok-order.ensures.fit in
+    let fit = c.in_ok-order.ensures.fit in
     let e = c.preview.ensures in
     let same = e.after ∙ empty_again a.book a.clear in
     let lines = e.lines ∙ ap (λ o. written (trades_of (joined s o) a.reference) tape) fit.0 in
     let value = e.value ∙ ap (λ o. struck_of (joined s o) a.reference) fit.0 in
     let nothing_due = order_first k c.args.price c.args.quantity (tape_row tape) fit.2 ∙ tape_long tape c.if-tape-lt256.false in
-    let o = c.in-ok-order.order in
+    let o = c.in_ok-order.order in
     let apart = apart_joined a.last o.side s o a.buys_sound a.sells_sound (ap (λ z. z.number) fit.0) in
     let three = few_joined a.last o.side s o a.buys_sound a.sells_sound (omega (arith, fit.1, ap (λ z. z.quantity) fit.0)) in
     record {
       same = same;
       state = ap (λ b. record { reference = a.reference; last = a.last; sides = standing_of b }) same;
       reply = (λ i. (lines i, Ok (value i))) ∙ ap (preview_by (view a) c.args.side k c.args.price c.args.quantity tape) (sym nothing_due);
-      law-of-call = subst (λ z. LawOfCall (joined s z) a.reference c.preview.result c.preview.new.tape) fit.0 (call_law (joined s o) a.reference c.preview.result tape c.preview.new.tape apart.0 apart.1 three.2 e.value e.lines e.law_of_price);
+      law_of_call = subst (λ z. LawOfCall (joined s z) a.reference c.preview.result c.preview.new.tape) fit.0 (call_law (joined s o) a.reference c.preview.result tape c.preview.new.tape apart.0 apart.1 three.2 e.value e.lines e.law_of_price);
     }

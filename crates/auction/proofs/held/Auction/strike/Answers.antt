@@ -12,11 +12,19 @@ strike-requires c =
     let a = c.args.self.now in
     (few _ _ a.buys_sound, (few _ _ a.sells_sound, omega (arith, a.buys_sound.0, a.sells_sound.0)))
 
-pub invariant-of-self : goal.invariant-of-self
-invariant-of-self c =
+pub invariant_of-self : goal.invariant_of-self
+invariant_of-self c =
     let a = c.args.self.now in
     let both = sound_struck a.last a.reference (standing_of a.book) a.buys_sound a.sells_sound in
-    kept_by_sound a.last a c.strike.new.book _ c.strike.ensures.standing both.0 both.1 c.strike.ensures.capacity c.strike.ensures.asked a.numbers
+    let k = kept_by_sound a.last a c.strike.new.book _ c.strike.ensures.standing both.0 both.1 c.strike.ensures.capacity c.strike.ensures.asked a.numbers in
+    record {
+      buys_sound = k.buys_sound;
+      sells_sound = k.sells_sound;
+      buys_room = k.buys_room;
+      sells_room = k.sells_room;
+      clear = k.clear;
+      numbers = k.numbers;
+    }
 
 pub returns : goal.returns
 returns c =
@@ -25,5 +33,5 @@ returns c =
     let e = c.strike.ensures in
     record {
       step = (λ i. (record { reference = a.reference; last = a.last; sides = e.standing i }, e.lines i, Ok (e.value i))) ∙ ap (strike_by (view a) tape) (sym (tape_long tape c.if-tape-lt256.false));
-      law-of-call = call_law (standing_of a.book) a.reference c.strike.result tape c.strike.new.tape a.buys_sound.2 a.sells_sound.2 (omega (arith, a.buys_sound.0, a.sells_sound.0)) e.value e.lines e.law_of_price;
+      law_of_call = call_law (standing_of a.book) a.reference c.strike.result tape c.strike.new.tape a.buys_sound.2 a.sells_sound.2 (omega (arith, a.buys_sound.0, a.sells_sound.0)) e.value e.lines e.law_of_price;
     }
