@@ -1,6 +1,6 @@
 -- A volume that is taken down a list: one step on, and at the ends. Assumes nothing.
 use Rattle.std.proofs.Common.{◌≡◌, ℕ, ◌+◌, ◌-◌, ◌<◌, ◌≤◌, min, List, [], ◌∷◌, ◌++◌, length, get_or, take, drop, set, sym, refl, ap, ◌∙◌, ap₂, arith}
-use Rattle.std.proofs.lemmas.List.{take_more_set, drop-set-lt, append_assoc, append-nil, at_drop_more, at_drop_all, take_all, drop_all, take-append-drop}
+use Rattle.std.proofs.lemmas.List.{take_more_set, drop-set-lt, append_assoc, append-nil, at_drop_more, take_all, drop_all, take-append-drop}
 use Rattle.ranking.specs.Lists.{total}
 use Rattle.ranking.specs.Walks.{walked}
 
