@@ -1,5 +1,5 @@
 -- What keeps the sides of an auction sound, and that sound sides are few enough for every sum. Assumes nothing.
-use Rattle.std.proofs.Common.{◌≡◌, ℕ, zero, suc, ◌+◌, ◌-◌, ◌<◌, ◌≤◌, Bool, true, false, cond, eqb, ◌⊎◌, List, [], ◌∷◌, ◌++◌, map, length, get_or, is_some, Some, None, vec_items, vec_capacity, filter, Option, sym, refl, ap, ◌∙◌, subst, inl, inr, ⊎_elim, arith, length-append}
+use Rattle.std.proofs.Common.{◌≡◌, ℕ, zero, suc, ◌+◌, ◌<◌, ◌≤◌, Bool, true, false, cond, eqb, ◌⊎◌, List, [], ◌∷◌, ◌++◌, map, length, get_or, is_some, Some, None, vec_items, vec_capacity, filter, Option, sym, refl, ap, ◌∙◌, subst, inl, inr, ⊎_elim, arith, length-append}
 use lib.ListN.{length-map}
 use Rattle.std.proofs.lemmas.Bool.{ne_eqb, cases_eq, true≢false}
 use Rattle.words.specs.declared.orders.Order.{Order}
@@ -7,7 +7,7 @@ use Rattle.words.specs.declared.sides.Side.{Side}
 use Rattle.words.specs.declared.sides.Side.TheVariants.{Buy, Sell}
 use Rattle.words.specs.declared.tape.Trade.{Trade}
 use Rattle.words.specs.Orders.{no_order}
-use Rattle.ranking.specs.Lists.{In, total}
+use Rattle.ranking.specs.Lists.{In}
 use Rattle.ranking.proofs.Lists.{total_le, total_map, total_kept, part_le}
 use Rattle.pricing.specs.Passes.{Few}
 use Rattle.pricing.specs.Price.{auction_price}

@@ -1,5 +1,5 @@
 -- The calls of an auction: what is refused, and what each granted call replies and changes. Assumes nothing.
-use Rattle.std.specs.Prelude.{◌≡◌, ℕ, ◌+◌, Bool, cond, not, List, [], ◌∷◌, length, Some, None, Ok, Err, Option, Result, nat_le, nat_lt}
+use Rattle.std.specs.Prelude.{◌≡◌, ℕ, ◌+◌, not, List, [], ◌∷◌, length, Some, None, Ok, Err, Option, Result, nat_le, nat_lt}
 use Rattle.words.specs.declared.orders.Order.{Order}
 use Rattle.words.specs.declared.refusals.Refusal.{Refusal}
 use Rattle.words.specs.declared.refusals.Refusal.TheVariants.{PriceUnfit, QuantityUnfit, TapeShort, ReferenceUnfit, SideFull, NumbersUsedUp}
@@ -9,7 +9,7 @@ use Rattle.words.specs.declared.terms.Kind.{Kind}
 use Rattle.words.specs.declared.terms.Condition.TheVariants.{Unconditional}
 use Rattle.words.specs.Refused.{Row, first_due}
 use Rattle.words.specs.Terms.{is_price, is_quantity, price_fits, terms_for}
-use Rattle.pricing.specs.Sides.{Sides, sides}
+use Rattle.pricing.specs.Sides.{sides}
 use Rattle.execution.specs.Execution.{written}
 use Rattle.execution.specs.Laws.{standing}
 use Rattle.book.specs.declared.asking.Answer.{Answer}

@@ -1,5 +1,5 @@
 -- The state of an auction. Assumes nothing.
-use Rattle.std.specs.Prelude.{ℕ, vec_items}
+use Rattle.std.specs.Prelude.{ℕ}
 use Rattle.pricing.specs.Sides.{Sides}
 use Rattle.book.specs.Books.{standing_of}
 use Rattle.auction.specs.declared.held.Auction.{Auction}

@@ -1,8 +1,7 @@
 -- The reply to the what-if question. Assumes nothing.
-use Rattle.std.specs.Prelude.{ℕ, Some, None, Option}
+use Rattle.std.specs.Prelude.{ℕ}
 use Rattle.words.specs.declared.orders.Order.{Order}
 use Rattle.pricing.specs.Sides.{Sides}
-use Rattle.pricing.specs.Price.{auction_price}
 use Rattle.pricing.specs.Outcomes.{outcome_of}
 use Rattle.execution.specs.Settling.{traded}
 use Rattle.book.specs.declared.asking.Answer.{Answer}

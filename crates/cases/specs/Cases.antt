@@ -1,5 +1,5 @@
 -- Books with the answers that the rules give them, worked by hand. Quantities stand before their limits. Assumes nothing.
-use Rattle.std.specs.Prelude.{◌≡◌, ℕ, List, [], ◌∷◌, ℤ, pos, negsuc, Some, None, Option}
+use Rattle.std.specs.Prelude.{◌≡◌, ℕ, [], ◌∷◌, ℤ, pos, negsuc, Some, None}
 use Rattle.words.specs.declared.orders.Order.{Order}
 use Rattle.words.specs.declared.sides.Side.{Side}
 use Rattle.words.specs.declared.sides.Side.TheVariants.{Buy, Sell}
@@ -10,8 +10,6 @@ use Rattle.words.specs.declared.terms.Condition.TheVariants.{Unconditional}
 use Rattle.pricing.specs.declared.outcomes.Outcome.{Outcome}
 use Rattle.pricing.specs.Sides.{Sides, sides}
 use Rattle.pricing.specs.Outcomes.{outcome_of}
-use Rattle.execution.specs.Settling.{after_trades}
-use Rattle.book.specs.declared.asking.Answer.{Answer}
 use Rattle.book.specs.Asking.{answer_of}
 use Rattle.book.specs.Striking.{trades_of, after_strike}
 

@@ -1,19 +1,17 @@
 -- The laws of the execution at a price. Assumes nothing.
-use Rattle.std.proofs.Common.{◌≡◌, ℕ, ◌+◌, ◌-◌, ◌<◌, ◌≤◌, min, Bool, true, false, cond, eqb, List, [], ◌∷◌, map, length, sym, refl, ap, ◌∙◌, subst, arith}
+use Rattle.std.proofs.Common.{◌≡◌, ℕ, ◌+◌, ◌-◌, ◌<◌, ◌≤◌, min, true, cond, eqb, List, length, sym, refl, ap, ◌∙◌, subst, arith}
 use lib.ListN.{length-map}
 use Rattle.words.specs.declared.orders.Order.{Order}
 use Rattle.words.specs.declared.sides.Side.{Side}
 use Rattle.words.specs.declared.sides.Side.TheVariants.{Buy, Sell}
 use Rattle.words.specs.declared.tape.Trade.{Trade}
 use Rattle.words.specs.Orders.{lowered}
-use Rattle.words.specs.Ranks.{ranks_before}
 use Rattle.ranking.specs.Lists.{In, total}
-use Rattle.ranking.specs.Ranking.{Outranks}
 use Rattle.ranking.proofs.Lists.{total_map, map_in, in_map, all_in, all_from}
 use Rattle.pricing.specs.Sides.{Sides, can_trade, demand, supply, volume}
-use Rattle.execution.specs.Execution.{ready, Pair, walk, pairs, line, executed}
+use Rattle.execution.specs.Execution.{ready, walk, pairs, line, executed}
 use Rattle.execution.specs.Settling.{named_by, traded, after_trades}
-use Rattle.execution.specs.Laws.{standing, Apart, Trader, Remainder, Executed, LawOfExecution}
+use Rattle.execution.specs.Laws.{standing, Apart, Remainder, LawOfExecution}
 use Rattle.execution.proofs.Sided.{same_order, ready_total, ready_short, ready_had, side_within, side_ahead}
 use Rattle.execution.proofs.Settled.{settled_left, settled_same, settled_from}
 use Rattle.execution.specs.Shares.{share}

@@ -1,10 +1,10 @@
 -- What stands after some lines. Assumes nothing.
-use Rattle.std.proofs.Common.{◌≡◌, ℕ, ◌-◌, ◌<◌, ltb, List, map, sym, refl, ap, ◌∙◌, subst, arith}
+use Rattle.std.proofs.Common.{◌≡◌, ◌-◌, ◌<◌, List, map, ap, subst, arith}
 use Rattle.std.proofs.lemmas.Bool.{ltb-true, lt-ltb}
 use Rattle.words.specs.declared.orders.Order.{Order}
 use Rattle.words.specs.declared.sides.Side.{Side}
 use Rattle.words.specs.declared.tape.Trade.{Trade}
-use Rattle.words.specs.Orders.{resized, lowered}
+use Rattle.words.specs.Orders.{resized}
 use Rattle.ranking.specs.Lists.{In}
 use Rattle.ranking.proofs.Lists.{in_kept, kept_in, map_in, in_map}
 use Rattle.execution.specs.Settling.{traded, left_by, stands, settled}

@@ -1,5 +1,5 @@
 -- What an execution gives the orders of one side. Assumes nothing.
-use Rattle.std.proofs.Common.{◌≡◌, ℕ, ◌+◌, ◌<◌, ◌≤◌, Bool, true, false, cond, eqb, ◌⊎◌, List, [], ◌∷◌, length, filter, sym, refl, ap, ◌∙◌, inl, inr, ⊎_elim, arith}
+use Rattle.std.proofs.Common.{◌≡◌, ℕ, ◌+◌, ◌<◌, ◌≤◌, true, false, cond, eqb, List, [], ◌∷◌, length, filter, sym, refl, ap, ◌∙◌, inl, inr, ⊎_elim, arith}
 use Rattle.std.proofs.lemmas.Bool.{cases_Bool, cases_lt, eq-eqb}
 use Rattle.words.specs.declared.orders.Order.{Order}
 use Rattle.words.specs.declared.sides.Side.{Side}
@@ -14,7 +14,7 @@ use Rattle.execution.specs.Execution.{ready}
 use Rattle.execution.specs.Laws.{count, Apart}
 use Rattle.execution.proofs.Ranks.{side_ranks, front}
 use Rattle.execution.specs.Shares.{share}
-use Rattle.execution.proofs.Walks.{held, in_count, absent, share_within, share_ahead, share_whole}
+use Rattle.execution.proofs.Walks.{in_count, absent, share_within, share_ahead, share_whole}
 
 -- two of one number are one order
 pub same_order : (o q : Order) (os : List Order) → Apart os → In o os → In q os → o.number ≡ q.number → o ≡ q

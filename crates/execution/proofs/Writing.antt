@@ -1,10 +1,10 @@
 -- The steps of the loops that rank a side and write the tape. Assumes nothing.
-use Rattle.std.proofs.Common.{◌≡◌, ℕ, ◌+◌, ◌-◌, ◌<◌, ◌≤◌, min, Bool, true, false, cond, ltb, ◌⊎◌, List, [], ◌∷◌, ◌++◌, map, length, get_or, take, drop, set, filter, sym, refl, ap, ◌∙◌, subst, ap₂, inl, inr, ⊎_elim, arith, length-take}
+use Rattle.std.proofs.Common.{◌≡◌, ℕ, ◌+◌, ◌<◌, ◌≤◌, min, Bool, true, false, cond, ltb, ◌⊎◌, List, [], ◌∷◌, ◌++◌, map, length, get_or, take, drop, set, filter, sym, refl, ap, ◌∙◌, ap₂, inl, inr, ⊎_elim, arith, length-take}
 use Rattle.std.proofs.lemmas.List.{take_more_set, drop-set-lt, drop-set, drop_more, drop-drop, drop_all, append_assoc, append-nil, take-append-drop, take_all}
 use lib.Seq.{take-append-le}
 use Rattle.std.proofs.lemmas.List.Elements.{filter_more}
 use Rattle.std.proofs.lemmas.List.Sums.{fold_push}
-use Rattle.std.proofs.lemmas.Bool.{ltb-true, ltb-false}
+use Rattle.std.proofs.lemmas.Bool.{ltb-true}
 use Rattle.words.specs.declared.orders.Order.{Order}
 use Rattle.words.specs.declared.tape.Trade.{Trade}
 use Rattle.words.specs.Orders.{no_order}
@@ -13,7 +13,7 @@ use Rattle.words.specs.declared.sides.Side.{Side}
 use Rattle.words.specs.Orders.{lowered}
 use Rattle.words.specs.Ranks.{ranks_before}
 use Rattle.pricing.specs.Sides.{can_trade}
-use Rattle.execution.specs.Execution.{Pair, less_first, pairs, line, ready, written}
+use Rattle.execution.specs.Execution.{less_first, pairs, line, ready, written}
 use Rattle.execution.proofs.Walks.{pairs_none, pairs_step}
 
 -- ---- one order more, ranked

@@ -1,18 +1,18 @@
 -- What a study asks about is never refused. Assumes nothing.
-use Rattle.std.proofs.Common.{◌≡◌, ℕ, ◌≤◌, Bool, true, false, cond, not, ◌&&◌, List, [], ◌∷◌, length, Some, None, Ok, Err, Option, Result, sym, refl, ap, ◌∙◌, arith}
+use Rattle.std.proofs.Common.{◌≡◌, ℕ, ◌≤◌, true, not, ◌&&◌, List, [], ◌∷◌, length, None, Ok, Err, Result, sym, ap, ◌∙◌, arith}
 use Rattle.std.proofs.lemmas.Bool.{and_parts}
 use Rattle.words.specs.declared.orders.Order.{Order}
 use Rattle.words.specs.declared.refusals.Refusal.{Refusal}
 use Rattle.words.specs.declared.refusals.Refusal.TheVariants.{PriceUnfit, QuantityUnfit}
 use Rattle.words.specs.declared.tape.Trade.{Trade}
-use Rattle.words.specs.Refused.{Row, first_due}
+use Rattle.words.specs.Refused.{first_due}
 use Rattle.words.specs.Terms.{is_quantity, kind_of}
 use Rattle.words.specs.declared.terms.Kind.{Kind}
 use Rattle.book.specs.Asking.{answer_of}
 use Rattle.auction.specs.States.{State}
 use Rattle.auction.specs.Calls.{order_of, order_rows, tape_row, ask_by, ask_reply, preview_by, preview_reply, strike_by, strike_step}
 use Rattle.auction.proofs.Dues.{tape_long, order_first}
-use Rattle.study.specs.Sound.{fit_terms, is_unconditional, fit_order}
+use Rattle.study.specs.Sound.{fit_terms, is_unconditional}
 use Rattle.inquiry.specs.Loading.{price_in}
 use Rattle.inquiry.specs.Questions.{Askable, trades_asked, trades_struck}
 use Rattle.inquiry.proofs.Loaded.{terms_fit, terms_are, condition_is}

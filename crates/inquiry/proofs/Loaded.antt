@@ -1,5 +1,5 @@
 -- The orders of a study enter one after the other, and none is refused. Assumes nothing.
-use Rattle.std.proofs.Common.{◌≡◌, ℕ, zero, suc, ◌+◌, ◌<◌, ◌≤◌, min, Bool, true, false, cond, not, ◌&&◌, eqb, leb, List, [], ◌∷◌, ◌++◌, length, get_or, take, drop, Some, None, filter, Option, sym, refl, ap, ◌∙◌, subst, ap₂, arith, length-append, length-take}
+use Rattle.std.proofs.Common.{◌≡◌, ℕ, zero, suc, ◌+◌, ◌<◌, ◌≤◌, true, cond, not, ◌&&◌, eqb, List, [], ◌∷◌, ◌++◌, length, get_or, take, drop, None, Option, sym, refl, ap, ◌∙◌, ap₂, arith, length-append, length-take}
 use Rattle.std.proofs.lemmas.List.Elements.{filter-append}
 use Rattle.std.proofs.lemmas.List.Filters.{length-filter_both}
 use Rattle.std.proofs.lemmas.List.{take_more, take-append-drop, append-nil}
@@ -17,13 +17,13 @@ use Rattle.words.specs.declared.terms.Condition.TheVariants.{Unconditional, Imme
 use Rattle.words.specs.Orders.{no_order}
 use Rattle.words.specs.Refused.{first_due}
 use Rattle.words.specs.Terms.{is_quantity, kind_of, price_fits, terms_for}
-use Rattle.pricing.specs.Sides.{Sides, sides}
+use Rattle.pricing.specs.Sides.{sides}
 use Rattle.execution.specs.Laws.{standing}
-use Rattle.book.specs.Books.{joined, joined_on}
+use Rattle.book.specs.Books.{joined_on}
 use Rattle.auction.specs.States.{State}
 use Rattle.auction.specs.Calls.{order_of, enter_rows, enter_by, entered}
 use Rattle.study.specs.Bytes.{all}
-use Rattle.study.specs.Studies.{same_side, count_on}
+use Rattle.study.specs.Studies.{same_side}
 use Rattle.study.specs.Sound.{fit_terms, is_unconditional, fit_order, numbered_from}
 use Rattle.inquiry.specs.Loading.{price_in, on_side, holding, FitOrders, put_step}
 

@@ -1,6 +1,6 @@
 -- The law of the auction price. Assumes nothing.
-use Rattle.std.proofs.Common.{◌≡◌, ℕ, zero, suc, ◌+◌, ◌-◌, ◌<◌, ◌≤◌, min, max, Bool, true, false, cond, not, ◌&&◌, eqb, ltb, leb, ◌⊎◌, List, [], ◌∷◌, ◌++◌, ℤ, pos, negsuc, ◌-ℤ◌, nat_abs, Some, None, filter, Option, sym, refl, ap, ◌∙◌, subst, inl, inr, ⊎_elim, arith}
-use Rattle.std.proofs.lemmas.Bool.{both_ways, true≢false, and_parts, and_from, and_cases, cases_lt, cases_Bool, cases_eq, ltb-true, ltb-false, leb-true, leb-false, eqb-true, eqb-false, lt-ltb, le-leb, cond_both, not-true, not_from_false}
+use Rattle.std.proofs.Common.{◌≡◌, ℕ, zero, suc, ◌+◌, ◌-◌, ◌<◌, ◌≤◌, Bool, true, false, cond, not, ◌&&◌, ltb, leb, ◌⊎◌, List, [], ◌∷◌, pos, negsuc, ◌-ℤ◌, nat_abs, Some, None, filter, Option, sym, refl, subst, inl, inr, ⊎_elim, arith}
+use Rattle.std.proofs.lemmas.Bool.{true≢false, and_parts, and_cases, cases_lt, ltb-true, ltb-false, leb-true, eqb-true, eqb-false, lt-ltb, le-leb, cond_both}
 use Rattle.std.proofs.lemmas.Bool.Decides.{nat_tests}
 use Rattle.words.specs.declared.orders.Order.{Order}
 use Rattle.words.specs.declared.terms.Terms.{Terms}
@@ -10,10 +10,10 @@ use Rattle.words.specs.declared.sides.Side.TheVariants.{Buy, Sell}
 use Rattle.words.specs.declared.terms.Condition.{Condition}
 use Rattle.words.specs.Terms.{may_trade}
 use Rattle.ranking.specs.Lists.{In, total, each}
-use Rattle.pricing.specs.Sides.{Sides, sides, can_trade, open_at, demand, supply, volume, gap, positive, negative, balanced, limits, limits_of, with_limit}
-use Rattle.pricing.specs.Price.{largest, smallest, highest, lowest, highest_with, lowest_with, none, candidates, lower_end, upper_end, nearest, chosen, market_only, price_of, auction_price}
+use Rattle.pricing.specs.Sides.{Sides, can_trade, demand, supply, volume, gap, positive, negative, balanced, limits, limits_of}
+use Rattle.pricing.specs.Price.{largest, highest, lowest, none, candidates, nearest, chosen, market_only, price_of, auction_price}
 use Rattle.pricing.specs.Outcomes.{outcome_at}
-use Rattle.pricing.specs.Laws.{Between, Placed, Found, LawOfPrice}
+use Rattle.pricing.specs.Laws.{Placed, LawOfPrice}
 use Rattle.ranking.proofs.Lists.{in_left, in_right, in_kept, kept_in, each_in, each_from, each_not, has_top, total_le}
 use Rattle.pricing.proofs.Extremes.{highest_in, lowest_in, highest_over, lowest_under}
 

@@ -1,5 +1,5 @@
 -- The law of the auction price, in the words of the subject: it holds of every book and every reference price. Assumes nothing.
-use Rattle.std.specs.Prelude.{◌≡◌, ℕ, ◌<◌, ◌≤◌, ◌⊎◌, List, Some, None, Option, unsigned_abs}
+use Rattle.std.specs.Prelude.{◌≡◌, ℕ, ◌≤◌, ◌⊎◌, Some, None, Option, unsigned_abs}
 use Rattle.ranking.specs.Lists.{In}
 use Rattle.pricing.specs.Sides.{Sides, volume, surplus, limits}
 

@@ -1,5 +1,5 @@
 -- The auction price by two passes over the limits: the best volume and surplus, and the ends of the prices that have them. Assumes nothing.
-use Rattle.std.specs.Prelude.{ℕ, ◌+◌, ◌-◌, ◌≤◌, min, max, Bool, true, false, cond, ◌&&◌, ◌||◌, List, [], ◌∷◌, length, Some, None, fold, Option, ◌==◌, nat_lt, slice_index_or}
+use Rattle.std.specs.Prelude.{ℕ, ◌+◌, ◌-◌, ◌≤◌, min, max, Bool, true, false, cond, ◌&&◌, ◌||◌, List, length, Some, None, fold, Option, ◌==◌, nat_lt, slice_index_or}
 use Rattle.words.specs.declared.orders.Order.{Order}
 use Rattle.words.specs.declared.terms.Terms.{Terms}
 use Rattle.words.specs.declared.terms.Terms.TheVariants.{Limit, Market, MarketToLimit}

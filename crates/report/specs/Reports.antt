@@ -1,5 +1,5 @@
 -- When a study is answered, and when it is refused. Assumes nothing.
-use Rattle.std.specs.Prelude.{◌≡◌, ◌⊎◌, Ok, Err, Result, ◌≢◌}
+use Rattle.std.specs.Prelude.{◌≡◌, Ok, Err, Result, ◌≢◌}
 use Rattle.study.specs.declared.faults.Fault.{Fault}
 use Rattle.study.specs.Studies.{Content}
 use Rattle.report.specs.declared.reports.ReportError.{ReportError}

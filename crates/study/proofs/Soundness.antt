@@ -9,7 +9,6 @@ use Rattle.words.specs.declared.terms.Kind.{Kind}
 use Rattle.words.specs.declared.terms.Kind.TheVariants as kinds
 use Rattle.words.specs.Terms.{is_price, is_quantity}
 use Rattle.words.specs.Orders.{no_order}
-use Rattle.study.specs.declared.faults.Fault.{Fault}
 use Rattle.study.specs.declared.faults.StudyError.{StudyError}
 use Rattle.study.specs.declared.faults.StudyError.TheVariants as errors
 use Rattle.study.specs.declared.faults.Reason.{Reason}

@@ -4,6 +4,7 @@
 use anyhow::anyhow;
 use report::reports::report;
 use std::io::Read;
+use std::process::ExitCode;
 use std::{env, fs};
 
 const HELP: &str = "whatif: the price of a call auction, and what one more order would get
@@ -89,6 +90,10 @@ fn run(rt: &HostRuntime) -> anyhow::Result<()> {
     }
 }
 
-fn main(rt: HostRuntime) -> anyhow::Result<()> {
-    run(&rt)
+fn main(rt: HostRuntime) -> ExitCode {
+    match run(&rt) {
+        Ok(()) => ExitCode::SUCCESS,
+        // what went wrong was told where it came up
+        Err(_) => ExitCode::FAILURE,
+    }
 }

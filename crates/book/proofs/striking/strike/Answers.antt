@@ -1,6 +1,5 @@
-use Rattle.std.proofs.Common.{vec_items, sym, refl, ap, ◌∙◌, ap₂, rules}
+use Rattle.std.proofs.Common.{sym, refl, ap, ◌∙◌, ap₂, rules}
 use Rattle.execution.specs.Execution.{written}
-use Rattle.pricing.specs.Laws.{LawOfPrice}
 use Rattle.pricing.specs.Sides.{sides}
 use Rattle.book.specs.Books.{standing_of}
 use Rattle.book.specs.Striking.{trades_of, struck_of}

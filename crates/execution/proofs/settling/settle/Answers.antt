@@ -1,4 +1,4 @@
-use Rattle.std.proofs.Common.{◌≡◌, take, ap, ◌∙◌, arith, rules}
+use Rattle.std.proofs.Common.{take, ap, ◌∙◌, arith, rules}
 use Rattle.std.proofs.lemmas.List.{with_items_is}
 use Rattle.execution.specs.Settling.{settled}
 use Rattle.execution.proofs.settling.settle.Goals as goal

@@ -1,4 +1,4 @@
-use Rattle.std.proofs.Common.{◌≡◌, ap, ◌∙◌, arith, rules}
+use Rattle.std.proofs.Common.{ap, ◌∙◌, arith, rules}
 use Rattle.ranking.specs.Lists.{total}
 use Rattle.execution.specs.Shares.{share}
 use Rattle.execution.proofs.Sided.{ready_total}

@@ -1,4 +1,4 @@
-use Rattle.std.proofs.Common.{◌≡◌, ap, ◌∙◌, arith}
+use Rattle.std.proofs.Common.{ap, arith}
 use Rattle.ranking.specs.Lists.{total}
 use Rattle.execution.specs.Shares.{open_of}
 use Rattle.execution.proofs.Taken.{taken_share, taken_less}

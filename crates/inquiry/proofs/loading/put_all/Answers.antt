@@ -1,4 +1,4 @@
-use Rattle.std.proofs.Common.{◌≡◌, ap, ◌∙◌, take_all}
+use Rattle.std.proofs.Common.{ap, ◌∙◌, take_all}
 use Rattle.auction.specs.States.{view}
 use Rattle.inquiry.specs.Loading.{holding}
 use Rattle.inquiry.proofs.Loaded.{one_more}

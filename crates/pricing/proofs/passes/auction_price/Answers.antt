@@ -1,4 +1,4 @@
-use Rattle.std.proofs.Common.{cond, Some, None, sym, ap, ◌∙◌, arith}
+use Rattle.std.proofs.Common.{cond, Some, None, ap, ◌∙◌, arith}
 use Rattle.pricing.specs.Sides.{sides}
 use Rattle.pricing.specs.Passes.{choice}
 use Rattle.pricing.proofs.Passing.{passes_find, passes_miss}

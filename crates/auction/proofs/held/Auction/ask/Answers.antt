@@ -1,4 +1,4 @@
-use Rattle.std.proofs.Common.{◌≡◌, Ok, sym, ap, ◌∙◌, subst, arith}
+use Rattle.std.proofs.Common.{Ok, sym, ap, ◌∙◌, subst, arith}
 use Rattle.book.specs.Asking.{answer_of}
 use Rattle.book.specs.Books.{standing_of, joined}
 use Rattle.auction.specs.Calls.{ask_by}

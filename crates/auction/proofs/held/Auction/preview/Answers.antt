@@ -1,4 +1,4 @@
-use Rattle.std.proofs.Common.{◌≡◌, Ok, sym, ap, ◌∙◌, subst, arith}
+use Rattle.std.proofs.Common.{Ok, sym, ap, ◌∙◌, subst, arith}
 use Rattle.execution.specs.Execution.{written}
 use Rattle.book.specs.Books.{standing_of, joined}
 use Rattle.book.specs.Striking.{trades_of, struck_of}

@@ -1,4 +1,4 @@
-use Rattle.std.proofs.Common.{◌≡◌, Ok, sym, ap, ◌∙◌, arith}
+use Rattle.std.proofs.Common.{Ok, sym, ap, ◌∙◌, arith}
 use Rattle.book.specs.Books.{standing_of}
 use Rattle.auction.specs.Calls.{strike_by}
 use Rattle.auction.specs.States.{view}
