@@ -1,6 +1,6 @@
 -- What a walk in pairs gives each order. Assumes nothing.
 use Rattle.std.proofs.Common.{◌≡◌, ℕ, zero, suc, ◌+◌, ◌-◌, ◌<◌, ◌≤◌, min, Bool, true, false, cond, eqb, ltb, ◌⊎◌, List, [], ◌∷◌, map, length, sym, refl, ap, ◌∙◌, inl, inr, ⊎_elim, arith}
-use Rattle.std.specs.List.{AllByRecursion as All}
+use Rattle.std.specs.List.{AllByRecursion}
 use Rattle.std.proofs.lemmas.Bool.{cases_Bool, cases_lt, ltb-true, ltb-false, eq-eqb}
 use Rattle.words.specs.declared.orders.Order.{Order}
 use Rattle.words.specs.Orders.{lowered}
@@ -121,10 +121,10 @@ walk_flip (suc k) (x ∷ xs) (y ∷ ys) =
 
 -- ---- who is named
 
-less_all : (Q : ℕ → Type 0) (q : ℕ) (x : Order) (xs : List Order) → Q x.number → All (λ o. Q o.number) xs → All (λ o. Q o.number) (less_first q x xs)
-less_all Q q x xs h k = elim (ltb q x.quantity) as (λ b. All (λ o. Q o.number) (cond b (lowered x q ∷ xs) xs)) [ true ↦ (h, k) | false ↦ k ]
+less_all : (Q : ℕ → Type 0) (q : ℕ) (x : Order) (xs : List Order) → Q x.number → AllByRecursion (λ o. Q o.number) xs → AllByRecursion (λ o. Q o.number) (less_first q x xs)
+less_all Q q x xs h k = elim (ltb q x.quantity) as (λ b. AllByRecursion (λ o. Q o.number) (cond b (lowered x q ∷ xs) xs)) [ true ↦ (h, k) | false ↦ k ]
 
-pub walk_names : (Q : ℕ → Type 0) (k : ℕ) (xs ys : List Order) → All (λ o. Q o.number) xs → All (λ t. Q t.one) (walk k xs ys)
+pub walk_names : (Q : ℕ → Type 0) (k : ℕ) (xs ys : List Order) → AllByRecursion (λ o. Q o.number) xs → AllByRecursion (λ t. Q t.one) (walk k xs ys)
 walk_names Q zero xs ys h = tt
 walk_names Q (suc k) [] ys h = tt
 walk_names Q (suc k) (x ∷ xs) [] h = tt

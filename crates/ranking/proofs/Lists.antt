@@ -1,6 +1,6 @@
 -- Members of lists, filters and totals. Assumes nothing.
 use Rattle.std.proofs.Common.{◌≡◌, ℕ, ◌+◌, ◌<◌, ◌≤◌, Bool, true, false, cond, ◌&&◌, ◌⊎◌, List, [], ◌∷◌, ◌++◌, map, filter, sym, refl, ap, ◌∙◌, subst, ap₂, inl, inr, ⊎_elim, arith}
-use Rattle.std.specs.List.{AllByRecursion as All}
+use Rattle.std.specs.List.{AllByRecursion}
 use Rattle.std.proofs.lemmas.Bool.{true≢false, and_parts, and_from, and_cases}
 use Rattle.ranking.specs.Lists.{In, Earlier, total, each}
 
@@ -112,12 +112,12 @@ in_map f [] x m = absurd m
 in_map f (y ∷ ys) x (inl e) = inl (ap f e)
 in_map f (y ∷ ys) x (inr m) = inr (in_map f ys x m)
 
-pub all_in : {X : Type 0} (P : X → Type 0) (xs : List X) → All P xs → (x : X) → In x xs → P x
+pub all_in : {X : Type 0} (P : X → Type 0) (xs : List X) → AllByRecursion P xs → (x : X) → In x xs → P x
 all_in P [] h x m = absurd m
 all_in P (y ∷ ys) h x (inl e) = subst P (sym e) h.0
 all_in P (y ∷ ys) h x (inr m) = all_in P ys h.1 x m
 
-pub all_from : {X : Type 0} (P : X → Type 0) (xs : List X) → ((x : X) → In x xs → P x) → All P xs
+pub all_from : {X : Type 0} (P : X → Type 0) (xs : List X) → ((x : X) → In x xs → P x) → AllByRecursion P xs
 all_from P [] h = tt
 all_from P (y ∷ ys) h = (h y (inl refl), all_from P ys (λ x m. h x (inr m)))
 
