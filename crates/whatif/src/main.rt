@@ -93,7 +93,7 @@ fn run(rt: &HostRuntime) -> anyhow::Result<()> {
 fn main(rt: HostRuntime) -> ExitCode {
     match run(&rt) {
         Ok(()) => ExitCode::SUCCESS,
-        // what went wrong was told where it came up
+        // what is wrong with a study or its file was told in a line of its own
         Err(_) => ExitCode::FAILURE,
     }
 }
