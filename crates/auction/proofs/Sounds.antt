@@ -145,13 +145,15 @@ sound_struck last reference s h k = go (auction_price s reference)
 
 -- ---- all that is kept true between calls, of a book
 
-pub record Kept (last : ℕ) (b : Book) : Type 0 where
-  pub buys_sound : Sound last (vec_items b.buys)
-  pub sells_sound : Sound last (vec_items b.sells)
-  pub buys_room : 128 ≤ vec_capacity b.buys
-  pub sells_room : 128 ≤ vec_capacity b.sells
-  pub clear : is_some b.asked ≡ false
-  pub numbers : last ≤ 60000
+abbrev pub Kept : ℕ → Book → Type 0
+Kept last b = record {
+  buys_sound : Sound last (vec_items b.buys);
+  sells_sound : Sound last (vec_items b.sells);
+  buys_room : 128 ≤ vec_capacity b.buys;
+  sells_room : 128 ≤ vec_capacity b.sells;
+  clear : is_some b.asked ≡ false;
+  numbers : last ≤ 60000;
+}
 
 pub kept : (a : Auction) → Kept a.last a.book
 kept a = record {
@@ -163,6 +165,7 @@ kept a = record {
   numbers = a.numbers;
 }
 
+-- a book with other orders, in the same memory, keeps it where they are sound
 pub kept_by_sound : (last : ℕ) (a : Auction) (b : Book) (s : Sides) → standing_of b ≡ s → Sound last s.buys → Sound last s.sells → ((x : Side) → cap_of x b ≡ cap_of x a.book) → b.asked ≡ a.book.asked → last ≤ 60000 → Kept last b
 kept_by_sound last a b s e h k room asked most = record {
   buys_sound = subst (λ t. Sound last t.buys) (sym e) h;

@@ -1,6 +1,6 @@
 #![tactic(auto)]
 
-// The worked cases of the whole project, as one theorem over the definitions: each layer adds its lines.
+// The worked cases of the whole project, on one contract over the definitions: each layer adds its lines.
 ghost use Rattle.cases.specs.Cases.{WorkedCases};
 ghost use Rattle.cases.specs.Numbers.{WorkedNumbers};
 ghost use Rattle.cases.specs.Spans.{WorkedRanges};

@@ -13,12 +13,4 @@ invariant_of-self c =
     let at : o.side ≡ c.args.side = ap (λ z. z.side) fit.0 in
     let room : length (standing o.side s) < 128 = subst (λ x. length (standing x s) < 128) (sym at) (omega (arith, ap length c.orders.ensures)) in
     let both = sound_joined a.last o.side s o a.buys_sound a.sells_sound room (ap (λ z. z.number) fit.0) (omega (arith, fit.1, ap (λ z. z.quantity) fit.0)) in
-    let k = kept_by_sound (a.last + 1) a c.enter.new.self (joined s o) c.enter.ensures.standing both.0 both.1 c.enter.ensures.capacity c.enter.ensures.asked (omega arith) in
-    record {
-      buys_sound = k.buys_sound;
-      sells_sound = k.sells_sound;
-      buys_room = k.buys_room;
-      sells_room = k.sells_room;
-      clear = k.clear;
-      numbers = k.numbers;
-    }
+    kept_by_sound (a.last + 1) a c.enter.new.self (joined s o) c.enter.ensures.standing both.0 both.1 c.enter.ensures.capacity c.enter.ensures.asked (omega arith)

@@ -21,15 +21,7 @@ preview-requires c =
 pub invariant_of-self : goal.invariant_of-self
 invariant_of-self c =
     let a = c.args.self.now in
-    let k = subst (Kept a.last) (sym (c.preview.ensures.after ∙ empty_again a.book a.clear)) (kept a) in
-    record {
-      buys_sound = k.buys_sound;
-      sells_sound = k.sells_sound;
-      buys_room = k.buys_room;
-      sells_room = k.sells_room;
-      clear = k.clear;
-      numbers = k.numbers;
-    }
+    subst (Kept a.last) (sym (c.preview.ensures.after ∙ empty_again a.book a.clear)) (kept a)
 
 pub returns : goal.returns
 returns c =

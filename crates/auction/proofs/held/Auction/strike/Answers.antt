@@ -16,15 +16,7 @@ pub invariant_of-self : goal.invariant_of-self
 invariant_of-self c =
     let a = c.args.self.now in
     let both = sound_struck a.last a.reference (standing_of a.book) a.buys_sound a.sells_sound in
-    let k = kept_by_sound a.last a c.strike.new.book _ c.strike.ensures.standing both.0 both.1 c.strike.ensures.capacity c.strike.ensures.asked a.numbers in
-    record {
-      buys_sound = k.buys_sound;
-      sells_sound = k.sells_sound;
-      buys_room = k.buys_room;
-      sells_room = k.sells_room;
-      clear = k.clear;
-      numbers = k.numbers;
-    }
+    kept_by_sound a.last a c.strike.new.book _ c.strike.ensures.standing both.0 both.1 c.strike.ensures.capacity c.strike.ensures.asked a.numbers
 
 pub returns : goal.returns
 returns c =
