@@ -5,7 +5,7 @@ ghost use Rattle.words.specs.Orders.{lowered, resized};
 use crate::sides::Side;
 use crate::terms::{Condition, Terms};
 
-#[derive(Clone, Copy)]
+#[derive(Clone, Copy, Debug, PartialEq, Eq)]
 pub struct Order {
     pub number: u16,
     pub side: Side,

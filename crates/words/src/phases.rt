@@ -3,52 +3,48 @@ ghost use Rattle.std.specs.Prelude.{◌≡◌};
 ghost use Rattle.words.specs.Codes.{phase_code, stage_code, strike_result_code};
 ghost use Rattle.words.specs.Phases.{phase_kind};
 
-#[derive(Clone, Copy)]
+#[derive(Clone, Copy, Debug, PartialEq, Eq)]
 pub enum Phase {
-    OpeningCall,
-    Continuous,
-    InterruptionCall,
-    ClosingCall,
-    Ended,
+    OpeningCall = 1,
+    Continuous = 2,
+    InterruptionCall = 3,
+    ClosingCall = 4,
+    Ended = 5,
 }
 
 // What phases have in common: orders gather in a call, and trade as they come in continuous trading.
-#[derive(Clone, Copy)]
+#[derive(Clone, Copy, Debug, PartialEq, Eq)]
 pub enum PhaseKind {
     Call,
     Continuous,
 }
 
 // How far a call has come: a price outside the ranges extends it once, and one outside the wider ranges then holds it.
-#[derive(Clone, Copy)]
+#[derive(Clone, Copy, Debug, PartialEq, Eq)]
 pub enum Stage {
-    First,
-    Extended,
-    Held,
+    First = 1,
+    Extended = 2,
+    Held = 3,
 }
 
 // How a strike or a release ends.
-#[derive(Clone, Copy)]
+#[derive(Clone, Copy, Debug, PartialEq, Eq)]
 pub enum StrikeResult {
-    Executed,
-    NoPrice,
-    Extended,
-    Held,
+    Executed = 1,
+    NoPrice = 2,
+    Extended = 3,
+    Held = 4,
+}
+
+impl From<Phase> for u8 {
+    ghost from_gives = { λ phase code. code ≡ phase_code phase };
+
+    fn from(phase: Phase) -> u8 {
+        phase as u8
+    }
 }
 
 impl Phase {
-    pub fn code(self) -> u8
-        ensures { result ≡ phase_code self }
-    {
-        match self {
-            Phase::OpeningCall => 1,
-            Phase::Continuous => 2,
-            Phase::InterruptionCall => 3,
-            Phase::ClosingCall => 4,
-            Phase::Ended => 5,
-        }
-    }
-
     // Whether it is a call or continuous trading; the ended day is neither.
     pub fn kind(self) -> Option<PhaseKind>
         ensures { result ≡ phase_kind self }
@@ -63,27 +59,18 @@ impl Phase {
     }
 }
 
-impl Stage {
-    pub fn code(self) -> u8
-        ensures { result ≡ stage_code self }
-    {
-        match self {
-            Stage::First => 1,
-            Stage::Extended => 2,
-            Stage::Held => 3,
-        }
+impl From<Stage> for u8 {
+    ghost from_gives = { λ stage code. code ≡ stage_code stage };
+
+    fn from(stage: Stage) -> u8 {
+        stage as u8
     }
 }
 
-impl StrikeResult {
-    pub fn code(self) -> u8
-        ensures { result ≡ strike_result_code self }
-    {
-        match self {
-            StrikeResult::Executed => 1,
-            StrikeResult::NoPrice => 2,
-            StrikeResult::Extended => 3,
-            StrikeResult::Held => 4,
-        }
+impl From<StrikeResult> for u8 {
+    ghost from_gives = { λ how code. code ≡ strike_result_code how };
+
+    fn from(how: StrikeResult) -> u8 {
+        how as u8
     }
 }

@@ -3,106 +3,75 @@ ghost use Rattle.std.specs.Prelude.{◌≡◌, true, List};
 ghost use Rattle.words.specs.Codes.{refusal_number, RefusalsNumbered};
 ghost use Rattle.words.specs.Refused.{Row, first_due, rising, RefusedRightly};
 
-#[derive(Clone, Copy)]
+#[derive(Clone, Copy, Debug, PartialEq, Eq)]
 pub enum Refusal {
     // a price that does not fit the kind of the order
-    PriceUnfit,
+    PriceUnfit = 1,
     // a quantity outside 1 to 1,000,000
-    QuantityUnfit,
+    QuantityUnfit = 2,
     // a code that names no side, kind or condition
-    CodeUnknown,
+    CodeUnknown = 3,
     // a kind of order with a condition that it never enters with
-    PairNeverEnters,
+    PairNeverEnters = 4,
     // member 0
-    MemberUnfit,
+    MemberUnfit = 5,
     // a time beyond the day's last second, 86,399
-    TimeUnfit,
+    TimeUnfit = 6,
     // a tape of fewer than 256 places
-    TapeShort,
+    TapeShort = 7,
     // a closing price, reference price or width out of range, where something is made with it
-    ReferenceUnfit,
+    ReferenceUnfit = 8,
     // a call file that does not begin with version byte 1
-    VersionUnknown,
+    VersionUnknown = 9,
     // a record with an unknown letter
-    LetterUnknown,
+    LetterUnknown = 10,
     // a record of length 0, or of a length that does not fit its letter
-    LengthUnfit,
+    LengthUnfit = 11,
     // a record that the end of the file cuts short
-    RecordCutShort,
+    RecordCutShort = 12,
     // a first record that does not make a session (letter M), or a later one that does
-    MakingMisplaced,
+    MakingMisplaced = 13,
     // a client reference with a byte outside 33 to 126
-    ClientReferenceUnfit,
+    ClientReferenceUnfit = 14,
     // an offer or minimum price of a sale outside 1 to 1,000,000
-    OfferUnfit,
+    OfferUnfit = 15,
     // a bid price below the minimum of the sale or above 1,000,000
-    BidPriceUnfit,
+    BidPriceUnfit = 16,
     // a market bid's money outside 1 to 1,000,000,000
-    BidMoneyUnfit,
+    BidMoneyUnfit = 17,
     // a time earlier than the clock of the session
-    TimeRunsBack,
+    TimeRunsBack = 20,
     // a call that the phase or the stage does not take
-    CallNotOfPhase,
+    CallNotOfPhase = 21,
     // a kind of order with a condition that does not enter in this phase
-    PairNotOfPhase,
+    PairNotOfPhase = 22,
     // a number under which no order stands
-    OrderNotStanding,
+    OrderNotStanding = 23,
     // 128 orders stand on the side already
-    SideFull,
+    SideFull = 24,
     // a market-to-limit order in continuous trading that finds no limit to take
-    NoLimitOpposite,
+    NoLimitOpposite = 25,
     // a book-or-cancel order that would trade
-    WouldTrade,
+    WouldTrade = 26,
     // a fill-or-kill order for which too few shares stand inside the ranges
-    NotFilledWhole,
+    NotFilledWhole = 27,
     // an amended price that does not fit the kind of the order
-    AmendedPriceUnfit,
+    AmendedPriceUnfit = 28,
     // a strike under 120 seconds into an interruption or an extension
-    StrikeTooEarly,
+    StrikeTooEarly = 29,
     // the 60,000 numbers are used up
-    NumbersUsedUp,
+    NumbersUsedUp = 30,
     // 64 bids stand in the sale already
-    SaleFull,
+    SaleFull = 31,
     // a number that is not of a bid of this member's
-    BidNotOwn,
+    BidNotOwn = 32,
 }
 
 impl Refusal {
     pub fn number(self) -> u8
         ensures { result ≡ refusal_number self }
     {
-        match self {
-            Refusal::PriceUnfit => 1,
-            Refusal::QuantityUnfit => 2,
-            Refusal::CodeUnknown => 3,
-            Refusal::PairNeverEnters => 4,
-            Refusal::MemberUnfit => 5,
-            Refusal::TimeUnfit => 6,
-            Refusal::TapeShort => 7,
-            Refusal::ReferenceUnfit => 8,
-            Refusal::VersionUnknown => 9,
-            Refusal::LetterUnknown => 10,
-            Refusal::LengthUnfit => 11,
-            Refusal::RecordCutShort => 12,
-            Refusal::MakingMisplaced => 13,
-            Refusal::ClientReferenceUnfit => 14,
-            Refusal::OfferUnfit => 15,
-            Refusal::BidPriceUnfit => 16,
-            Refusal::BidMoneyUnfit => 17,
-            Refusal::TimeRunsBack => 20,
-            Refusal::CallNotOfPhase => 21,
-            Refusal::PairNotOfPhase => 22,
-            Refusal::OrderNotStanding => 23,
-            Refusal::SideFull => 24,
-            Refusal::NoLimitOpposite => 25,
-            Refusal::WouldTrade => 26,
-            Refusal::NotFilledWhole => 27,
-            Refusal::AmendedPriceUnfit => 28,
-            Refusal::StrikeTooEarly => 29,
-            Refusal::NumbersUsedUp => 30,
-            Refusal::SaleFull => 31,
-            Refusal::BidNotOwn => 32,
-        }
+        self as u8
     }
 }
 

@@ -1,80 +1,81 @@
 // What an order asks: its kind, with the limit that only a limit order has, and its condition.
 ghost use Rattle.std.specs.Prelude.{◌≡◌};
+ghost use Rattle.std.specs.Option.{ok_or};
 ghost use Rattle.words.specs.Codes.{kind_code, kind_at, condition_code, condition_at, CodesAgree};
+ghost use Rattle.words.specs.declared.refusals.Refusal.TheVariants.{CodeUnknown};
 ghost use Rattle.words.specs.Terms.{kind_of, limit_of, terms_from, may_trade};
 
 use crate::refusals::Refusal;
 use crate::sides::Side;
 
-#[derive(Clone, Copy)]
+#[derive(Clone, Copy, Debug, PartialEq, Eq)]
 pub enum Kind {
-    Limit,
-    Market,
-    MarketToLimit,
+    Limit = 1,
+    Market = 2,
+    MarketToLimit = 3,
 }
 
-#[derive(Clone, Copy)]
+#[derive(Clone, Copy, Debug, PartialEq, Eq)]
 pub enum Condition {
-    Unconditional,
-    ImmediateOrCancel,
-    FillOrKill,
-    BookOrCancel,
+    Unconditional = 0,
+    ImmediateOrCancel = 1,
+    FillOrKill = 2,
+    BookOrCancel = 3,
 }
 
 // A kind of order together with its limit, if the kind has one.
-#[derive(Clone, Copy)]
+#[derive(Clone, Copy, Debug, PartialEq, Eq)]
 pub enum Terms {
     Limit(u32),
     Market,
     MarketToLimit,
 }
 
-impl Kind {
-    pub fn code(self) -> u8
-        ensures { result ≡ kind_code self }
-    {
-        match self {
-            Kind::Limit => 1,
-            Kind::Market => 2,
-            Kind::MarketToLimit => 3,
-        }
-    }
+impl From<Kind> for u8 {
+    ghost from_gives = { λ kind code. code ≡ kind_code kind };
 
-    // The kind with that code, if any has it.
-    pub fn from_code(code: u8) -> Option<Kind>
-        ensures { result ≡ kind_at code }
-    {
+    fn from(kind: Kind) -> u8 {
+        kind as u8
+    }
+}
+
+// The kind with that code, if any has it.
+impl TryFrom<u8> for Kind {
+    type Error = Refusal;
+
+    ghost try_from_gives = { λ code r. r ≡ ok_or (kind_at code) CodeUnknown };
+
+    fn try_from(code: u8) -> Result<Kind, Refusal> {
         match code {
-            1 => Some(Kind::Limit),
-            2 => Some(Kind::Market),
-            3 => Some(Kind::MarketToLimit),
-            _ => None,
+            1 => Ok(Kind::Limit),
+            2 => Ok(Kind::Market),
+            3 => Ok(Kind::MarketToLimit),
+            _ => Err(Refusal::CodeUnknown),
         }
     }
 }
 
-impl Condition {
-    pub fn code(self) -> u8
-        ensures { result ≡ condition_code self }
-    {
-        match self {
-            Condition::Unconditional => 0,
-            Condition::ImmediateOrCancel => 1,
-            Condition::FillOrKill => 2,
-            Condition::BookOrCancel => 3,
-        }
-    }
+impl From<Condition> for u8 {
+    ghost from_gives = { λ condition code. code ≡ condition_code condition };
 
-    // The condition with that code, if any has it.
-    pub fn from_code(code: u8) -> Option<Condition>
-        ensures { result ≡ condition_at code }
-    {
+    fn from(condition: Condition) -> u8 {
+        condition as u8
+    }
+}
+
+// The condition with that code, if any has it.
+impl TryFrom<u8> for Condition {
+    type Error = Refusal;
+
+    ghost try_from_gives = { λ code r. r ≡ ok_or (condition_at code) CodeUnknown };
+
+    fn try_from(code: u8) -> Result<Condition, Refusal> {
         match code {
-            0 => Some(Condition::Unconditional),
-            1 => Some(Condition::ImmediateOrCancel),
-            2 => Some(Condition::FillOrKill),
-            3 => Some(Condition::BookOrCancel),
-            _ => None,
+            0 => Ok(Condition::Unconditional),
+            1 => Ok(Condition::ImmediateOrCancel),
+            2 => Ok(Condition::FillOrKill),
+            3 => Ok(Condition::BookOrCancel),
+            _ => Err(Refusal::CodeUnknown),
         }
     }
 }
@@ -84,25 +85,11 @@ impl Terms {
     pub fn new(kind: Kind, price: u32) -> Result<Terms, Refusal>
         ensures { result ≡ terms_from kind price }
     {
-        match kind {
-            Kind::Limit => {
-                if price < 1 || price > 1_000_000 {
-                    return Err(Refusal::PriceUnfit);
-                }
-                Ok(Terms::Limit(price))
-            }
-            Kind::Market => {
-                if price != 0 {
-                    return Err(Refusal::PriceUnfit);
-                }
-                Ok(Terms::Market)
-            }
-            Kind::MarketToLimit => {
-                if price != 0 {
-                    return Err(Refusal::PriceUnfit);
-                }
-                Ok(Terms::MarketToLimit)
-            }
+        match (kind, price) {
+            (Kind::Limit, 1..=1_000_000) => Ok(Terms::Limit(price)),
+            (Kind::Market, 0) => Ok(Terms::Market),
+            (Kind::MarketToLimit, 0) => Ok(Terms::MarketToLimit),
+            _ => Err(Refusal::PriceUnfit),
         }
     }
 
