@@ -1,6 +1,6 @@
 -- A volume that is taken down a list: one step on, and at the ends. Assumes nothing.
-use Rattle.std.proofs.Common.{◌≡◌, ℕ, ◌+◌, ◌-◌, ◌<◌, ◌≤◌, min, List, [], ◌∷◌, ◌++◌, length, get_or, take, drop, set, sym, refl, ap, ◌∙◌, ap₂, arith}
-use Rattle.std.proofs.lemmas.List.{take_more_set, drop-set-lt, append_assoc, append-nil, at_drop_more, take_all, drop_all, take-append-drop}
+use Rattle.std.proofs.Common.{◌≡◌, ℕ, ◌+◌, ◌-◌, ◌<◌, ◌≤◌, min, List, [], ◌∷◌, ◌++◌, length, get_or, take, drop, set, sym, ap, ◌∙◌, ap₂, arith}
+use Rattle.std.proofs.lemmas.List.{take_more_set, drop-set-lt, append_assoc, append-nil, at_drop_more, take_all, drop_all}
 use Rattle.ranking.specs.Lists.{total}
 use Rattle.ranking.specs.Walks.{walked}
 
@@ -25,12 +25,3 @@ module _ {X : Type 0} (left : X → ℕ) (lowered : X → ℕ → X) where
 
   pub walk_all : (s : List X) (i v : ℕ) → length s ≤ i → take i s ++ walk v (drop i s) ≡ s
   walk_all s i v h = ap₂ (λ a b. a ++ walk v b) (take_all i s h) (drop_all i s h) ∙ append-nil s
-
-  walk_none : ((x : X) → lowered x 0 ≡ x) → (v : ℕ) (xs : List X) → v ≡ 0 → walk v xs ≡ xs
-  walk_none law v [] e = refl
-  walk_none law v (x ∷ xs) e =
-      let none : min v (left x) ≡ 0 = omega arith in
-      ap₂ ◌∷◌ (ap (lowered x) none ∙ law x) (walk_none law (v - left x) xs (omega arith))
-
-  pub walk_used : ((x : X) → lowered x 0 ≡ x) → (s : List X) (i v : ℕ) → v ≡ 0 → take i s ++ walk v (drop i s) ≡ s
-  walk_used law s i v e = ap (λ l. take i s ++ l) (walk_none law v (drop i s) e) ∙ take-append-drop i s

@@ -1,7 +1,7 @@
 use Rattle.std.proofs.Common.{◌≡◌, min, get_or, sym, ap, ◌∙◌, arith}
-use Rattle.std.proofs.lemmas.List.{set-get_or, drop_all}
+use Rattle.std.proofs.lemmas.List.{drop_all}
 use Rattle.ranking.specs.Lists.{total}
-use Rattle.ranking.proofs.Walking.{walk_more, rest_more, walk_all, walk_used}
+use Rattle.ranking.proofs.Walking.{walk_more, rest_more, walk_all}
 use Rattle.ranking.proofs.walks.walk.Goals as goal
 
 pub loop-e-preserved : goal.loop-e-preserved
@@ -13,20 +13,11 @@ loop-e-preserved g c =
       rest_more o.left o.lowered l.entries l.e-index c.e-item.result _ l.rest _ (omega arith) c.lower.ensures at ∙ l.invariant.1,
     )
 
-pub returns-after-loop-e : goal.returns-after-loop-e
-returns-after-loop-e g c =
+pub returns : goal.returns
+returns g c =
     let o = g.T.Open in
     let l = c.loop-e in
     record {
       after = sym (walk_all o.left o.lowered l.entries l.e-index l.rest (omega arith)) ∙ l.invariant.0;
       value = omega (arith, l.invariant.1, ap (total o.left) (drop_all l.e-index l.entries (omega arith)));
-    }
-
-pub returns-then-rest-eq0 : goal.returns-then-rest-eq0
-returns-then-rest-eq0 g c =
-    let o = g.T.Open in
-    let l = c.loop-e in
-    record {
-      after = set-get_or _ _ _ ∙ sym (walk_used o.left o.lowered g.met.T.Open.by_nothing l.entries l.e-index l.rest c.if-rest-eq0.true) ∙ l.invariant.0;
-      value = omega (arith, l.invariant.1);
     }
