@@ -1,6 +1,8 @@
 -- Two passes over the limits find the auction price. Assumes nothing.
 use Rattle.std.proofs.Common.{◌≡◌, ℕ, ◌<◌, ◌≤◌, min, max, Bool, true, false, cond, ◌&&◌, ◌||◌, eqb, ltb, leb, ◌⊎◌, List, [], ◌∷◌, Some, None, fold, filter, Option, sym, refl, ap, ◌∙◌, subst, ap₂, inl, inr, ⊎_elim, arith}
+use Rattle.std.specs.Bool.{then_some}
 use Rattle.std.proofs.lemmas.Bool.{cases_Bool, cases_eq, ltb-true, leb-true, le-ltb, lt-ltb, le-leb, eq-eqb, ne_eqb, eqb-true}
+use Rattle.std.specs.Bool.{then_some}
 use Rattle.std.proofs.lemmas.Bool.Decides.{nat_tests}
 use Rattle.pricing.specs.declared.passes.Merit.{Merit}
 use Rattle.pricing.specs.declared.passes.Ends.{Ends}
@@ -238,3 +240,7 @@ passes_miss b reference y e h =
     sym (empty_candidates b reference (candidates b) (λ c m.
     let k = candidate_best b c m in
     absurd (omega (arith, k.some, (best_each b nothing (limits b) c k.stands).0, ap (λ z. z.volume) e))))
+
+pub then_some_is : {A : Type 0} (b : Bool) (x : A) → then_some b x ≡ cond b (Some x) None
+then_some_is true x = refl
+then_some_is false x = refl

@@ -4,3 +4,4 @@
 pub mod demands;
 pub mod outcomes;
 pub mod passes;
+pub mod standing;

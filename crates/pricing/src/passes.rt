@@ -1,23 +1,24 @@
 // The auction price, found in two passes over the limits of a book.
-ghost use Rattle.std.specs.Prelude.{◌≡◌, min};
-ghost use Rattle.pricing.specs.Sides.{sides, limits_of, limits};
+ghost use Rattle.std.specs.Prelude.{◌≡◌, min, ◌∷◌, ◌++◌, fold};
+ghost use Rattle.std.specs.List.{filter_map};
+ghost use Rattle.words.specs.Terms.{limit_of};
+ghost use Rattle.pricing.specs.Sides.{limits_of, limits, demand, supply};
 ghost use Rattle.pricing.specs.Price.{auction_price, none, nearest, market_only};
-ghost use Rattle.pricing.specs.Passes.{is_limit, Few, merit_of, better, best_by, best_from, widen, ends_by, ends_from, choice, or_higher, or_lower, nothing, no_ends};
+ghost use Rattle.pricing.specs.Passes.{merit_of, better, best_from, widen, ends_from, choice, or_lower, nothing, no_ends};
 
-use crate::demands::open_at;
+use crate::standing::Standing;
+use std::cmp::Reverse;
 use words::orders::Order;
-use words::sides::Side;
-use words::terms::Terms;
 
 // What makes one limit price better than another: what it executes, and how much it leaves over on either side.
-#[derive(Clone, Copy)]
+#[derive(Clone, Copy, Debug, Default, PartialEq, Eq)]
 pub struct Merit {
     pub volume: u32,
     pub gap: u32,
 }
 
 // The candidates that the price is chosen by.
-#[derive(Clone, Copy)]
+#[derive(Clone, Copy, Debug, Default, PartialEq, Eq)]
 pub struct Ends {
     // the highest with a surplus above 0
     pub above: Option<u32>,
@@ -28,63 +29,31 @@ pub struct Ends {
     pub high: Option<u32>,
 }
 
-// The better of the two: the old one where they are level.
-fn better_of(best: Merit, demand: u32, supply: u32) -> Merit
-    ensures { result ≡ better best (merit_of demand supply) }
+// The merit of a price with that demand and supply.
+fn merit_of(demand: u32, supply: u32) -> Merit
+    ensures { result ≡ merit_of demand supply }
 {
-    let volume = demand.min(supply);
-    let gap = demand.abs_diff(supply);
-    if best.volume < volume || (volume == best.volume && gap < best.gap) {
-        Merit { volume, gap }
+    Merit {
+        volume: demand.min(supply),
+        gap: demand.abs_diff(supply),
+    }
+}
+
+// The better of the two: the old one where they are level.
+fn better_of(best: Merit, other: Merit) -> Merit
+    ensures { result ≡ better best other }
+{
+    if (best.volume, Reverse(best.gap)) < (other.volume, Reverse(other.gap)) {
+        other
     } else {
         best
-    }
-}
-
-// The best with the limit of one order more, if it has one.
-fn better_by(buys: &[Order], sells: &[Order], order: Order, best: Merit) -> Merit
-    requires { (Few buys.now) × (Few sells.now) }
-    ensures { result ≡ best_by (sides buys.now sells.now) best order.terms }
-{
-    match order.terms {
-        Terms::Limit(limit) => better_of(
-            best,
-            open_at(Side::Buy, buys, limit),
-            open_at(Side::Sell, sells, limit),
-        ),
-        Terms::Market => best,
-        Terms::MarketToLimit => best,
-    }
-}
-
-// The best over the limits of some orders, and of what was best before.
-fn best_over(buys: &[Order], sells: &[Order], orders: &[Order], start: Merit) -> Merit
-    requires { (Few buys.now) × (Few sells.now) }
-    ensures { result ≡ best_from (sides buys.now sells.now) start (limits_of orders.now) }
-{
-    let mut best = start;
-    for order in orders {
-        best = better_by(buys, sells, *order, best);
-    }
-    best
-}
-
-fn higher_of(a: Option<u32>, price: u32) -> Option<u32>
-    ensures { result ≡ or_higher a price }
-{
-    match a {
-        None => Some(price),
-        Some(x) => Some(x.max(price)),
     }
 }
 
 fn lower_of(a: Option<u32>, price: u32) -> Option<u32>
     ensures { result ≡ or_lower a price }
 {
-    match a {
-        None => Some(price),
-        Some(x) => Some(x.min(price)),
-    }
+    Some(a.map_or(price, |x| x.min(price)))
 }
 
 // The ends with one limit more, which counts where it is as good as the best.
@@ -92,46 +61,17 @@ fn widened(ends: Ends, best: Merit, price: u32, demand: u32, supply: u32) -> End
     ensures { result ≡ widen best ends price demand supply }
 {
     let mut wide = ends;
-    if demand.min(supply) == best.volume && demand.abs_diff(supply) == best.gap {
+    if merit_of(demand, supply) == best {
         if supply < demand {
-            wide.above = higher_of(ends.above, price);
+            wide.above = ends.above.max(Some(price));
         } else if demand < supply {
             wide.below = lower_of(ends.below, price);
         } else {
             wide.low = lower_of(ends.low, price);
-            wide.high = higher_of(ends.high, price);
+            wide.high = ends.high.max(Some(price));
         }
     }
     wide
-}
-
-// The ends with the limit of one order more, if it has one.
-fn widened_by(buys: &[Order], sells: &[Order], order: Order, best: Merit, ends: Ends) -> Ends
-    requires { (Few buys.now) × (Few sells.now) }
-    ensures { result ≡ ends_by (sides buys.now sells.now) best ends order.terms }
-{
-    match order.terms {
-        Terms::Limit(limit) => widened(
-            ends,
-            best,
-            limit,
-            open_at(Side::Buy, buys, limit),
-            open_at(Side::Sell, sells, limit),
-        ),
-        Terms::Market => ends,
-        Terms::MarketToLimit => ends,
-    }
-}
-
-fn ends_over(buys: &[Order], sells: &[Order], orders: &[Order], best: Merit, start: Ends) -> Ends
-    requires { (Few buys.now) × (Few sells.now) }
-    ensures { result ≡ ends_from (sides buys.now sells.now) best start (limits_of orders.now) }
-{
-    let mut ends = start;
-    for order in orders {
-        ends = widened_by(buys, sells, *order, best, ends);
-    }
-    ends
 }
 
 // The price between two that is nearest to the reference price.
@@ -147,22 +87,8 @@ fn choose(ends: Ends, reference: u32) -> Option<u32>
 {
     match (ends.above, ends.below) {
         (Some(above), Some(below)) => Some(nearest_to(above, below, reference)),
-        (Some(above), None) => Some(above),
-        (None, Some(below)) => Some(below),
-        (None, None) => match (ends.low, ends.high) {
-            (Some(low), Some(high)) => Some(nearest_to(low, high, reference)),
-            _ => None,
-        },
-    }
-}
-
-fn is_limit(terms: Terms) -> bool
-    ensures { result ≡ is_limit terms }
-{
-    match terms {
-        Terms::Limit(_) => true,
-        Terms::Market => false,
-        Terms::MarketToLimit => false,
+        (None, None) => Some(nearest_to(ends.low?, ends.high?, reference)),
+        (above, below) => above.or(below),
     }
 }
 
@@ -170,58 +96,77 @@ fn is_limit(terms: Terms) -> bool
 fn no_limit(orders: &[Order]) -> bool
     ensures { result ≡ none (limits_of orders.now) }
 {
-    for order in orders {
-        if is_limit(order.terms) {
-            return false;
+    orders.iter().all(|order| order.terms.limit().is_none())
+}
+
+impl Standing<'_> {
+    // The better of what was best and a limit more.
+    fn better_at(&self, best: Merit, limit: u32) -> Merit
+        ensures { result ≡ better best (merit_of (demand self.now limit) (supply self.now limit)) }
+    {
+        better_of(best, merit_of(self.demand(limit), self.supply(limit)))
+    }
+
+    // The best over the limits of some orders, and of what was best before.
+    fn best_over(&self, orders: &[Order], start: Merit) -> Merit
+        ensures { result ≡ best_from self.now start (filter_map (λ o. limit_of o.terms) orders.now) }
+    {
+        orders
+            .iter()
+            .filter_map(|order| order.terms.limit())
+            .fold(start, |best, limit| self.better_at(best, limit))
+    }
+
+    // The best over all limits of the book.
+    fn best(&self) -> Merit
+        ensures { result ≡ best_from self.now nothing (limits self.now) }
+    {
+        let of_buys = self.best_over(self.buys, Merit::default());
+        self.best_over(self.sells, of_buys)
+    }
+
+    // The ends with one limit more.
+    fn ends_with(&self, best: Merit, ends: Ends, limit: u32) -> Ends
+        ensures { result ≡ widen best ends limit (demand self.now limit) (supply self.now limit) }
+    {
+        widened(ends, best, limit, self.demand(limit), self.supply(limit))
+    }
+
+    fn ends_over(&self, orders: &[Order], best: Merit, start: Ends) -> Ends
+        ensures { result ≡ ends_from self.now best start (filter_map (λ o. limit_of o.terms) orders.now) }
+    {
+        orders
+            .iter()
+            .filter_map(|order| order.terms.limit())
+            .fold(start, |ends, limit| self.ends_with(best, ends, limit))
+    }
+
+    // The ends over all limits of the book.
+    fn ends(&self, best: Merit) -> Ends
+        ensures { result ≡ ends_from self.now best no_ends (limits self.now) }
+    {
+        let of_buys = self.ends_over(self.buys, best, Ends::default());
+        self.ends_over(self.sells, best, of_buys)
+    }
+
+    // Whether no order has a limit, and orders stand on both sides.
+    fn is_market_only(&self) -> bool
+        ensures { result ≡ market_only self.now }
+    {
+        no_limit(self.buys)
+            && no_limit(self.sells)
+            && !self.buys.is_empty()
+            && !self.sells.is_empty()
+    }
+
+    // The auction price.
+    pub(crate) fn auction_price(&self, reference: u32) -> Option<u32>
+        ensures { result ≡ auction_price self.now reference }
+    {
+        let best = self.best();
+        if best.volume > 0 {
+            return choose(self.ends(best), reference);
         }
+        self.is_market_only().then_some(reference)
     }
-    true
-}
-
-// Whether no order has a limit, and orders stand on both sides.
-fn is_market_only(buys: &[Order], sells: &[Order]) -> bool
-    ensures { result ≡ market_only (sides buys.now sells.now) }
-{
-    no_limit(buys) && no_limit(sells) && !buys.is_empty() && !sells.is_empty()
-}
-
-// The best over all limits of the book.
-fn best_of(buys: &[Order], sells: &[Order]) -> Merit
-    requires { (Few buys.now) × (Few sells.now) }
-    ensures { result ≡ best_from (sides buys.now sells.now) nothing (limits (sides buys.now sells.now)) }
-{
-    let nothing = Merit { volume: 0, gap: 0 };
-    let of_buys = best_over(buys, sells, buys, nothing);
-    best_over(buys, sells, sells, of_buys)
-}
-
-// The ends over all limits of the book.
-fn ends_of(buys: &[Order], sells: &[Order], best: Merit) -> Ends
-    requires { (Few buys.now) × (Few sells.now) }
-    ensures { result ≡ ends_from (sides buys.now sells.now) best no_ends (limits (sides buys.now sells.now)) }
-{
-    let none = Ends {
-        above: None,
-        below: None,
-        low: None,
-        high: None,
-    };
-    let of_buys = ends_over(buys, sells, buys, best, none);
-    ends_over(buys, sells, sells, best, of_buys)
-}
-
-// The auction price.
-pub(crate) fn auction_price(buys: &[Order], sells: &[Order], reference: u32) -> Option<u32>
-    requires { (Few buys.now) × (Few sells.now) }
-    ensures { result ≡ auction_price (sides buys.now sells.now) reference }
-{
-    let best = best_of(buys, sells);
-    if best.volume > 0 {
-        let ends = ends_of(buys, sells, best);
-        return choose(ends, reference);
-    }
-    if is_market_only(buys, sells) {
-        return Some(reference);
-    }
-    None
 }

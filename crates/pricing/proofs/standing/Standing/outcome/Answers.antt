@@ -1,12 +1,11 @@
 use Rattle.std.proofs.Common.{sym, ap, ◌∙◌}
-use Rattle.pricing.specs.Sides.{sides}
 use Rattle.pricing.specs.Outcomes.{outcome_at}
 use Rattle.pricing.proofs.Prices.{law_of_price, price_replied}
-use Rattle.pricing.proofs.outcomes.find_price.Goals as goal
+use Rattle.pricing.proofs.standing.Standing.outcome.Goals as goal
 
 pub returns : goal.returns
 returns c =
-    let s = sides c.args.buys.now c.args.sells.now in
+    let s = c.args.self.now in
     let found = c.auction_price.ensures in
     let reply = c.outcome_at.ensures in
     record {
