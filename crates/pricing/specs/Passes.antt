@@ -1,8 +1,6 @@
 -- The auction price by two passes over the limits: the best volume and surplus, and the ends of the prices that have them. Assumes nothing.
-use Rattle.std.specs.Prelude.{ℕ, ◌+◌, ◌-◌, ◌≤◌, min, max, Bool, true, false, cond, ◌&&◌, ◌||◌, List, length, Some, None, fold, Option, ◌==◌, nat_lt, slice_index_or}
+use Rattle.std.specs.Prelude.{ℕ, ◌+◌, ◌-◌, ◌≤◌, min, max, Bool, cond, ◌&&◌, ◌||◌, List, length, Some, None, fold, Option, ◌==◌, nat_lt, slice_index_or}
 use Rattle.words.specs.declared.orders.Order.{Order}
-use Rattle.words.specs.declared.terms.Terms.{Terms}
-use Rattle.words.specs.declared.terms.Terms.TheVariants.{Limit, Market, MarketToLimit}
 use Rattle.words.specs.Orders.{no_order}
 use Rattle.pricing.specs.declared.passes.Merit.{Merit}
 use Rattle.pricing.specs.declared.passes.Ends.{Ends}
@@ -20,12 +18,6 @@ merit_of d s = record { volume = min d s; gap = (d - s) + (s - d) }
 -- more volume, or as much with a smaller surplus
 abbrev pub better : Merit → Merit → Merit
 better y x = cond (nat_lt y.volume x.volume || (x.volume == y.volume && nat_lt x.gap y.gap)) x y
-
--- with the limit of one order more, if it has one
-abbrev pub best_by : Sides → Merit → Terms → Merit
-best_by s y (Limit l) = better y (merit_of (demand s l) (supply s l))
-best_by s y Market = y
-best_by s y MarketToLimit = y
 
 abbrev pub best_from : Sides → Merit → List ℕ → Merit
 best_from s start ps = fold (λ y p. better y (merit_of (demand s p) (supply s p))) start ps
@@ -50,11 +42,6 @@ widen y e p d s = record {
   high = cond (as_good y d s && d == s) (or_higher e.high p) e.high;
 }
 
-abbrev pub ends_by : Sides → Merit → Ends → Terms → Ends
-ends_by s y e (Limit l) = widen y e l (demand s l) (supply s l)
-ends_by s y e Market = e
-ends_by s y e MarketToLimit = e
-
 abbrev pub ends_from : Sides → Merit → Ends → List ℕ → Ends
 ends_from s y start ps = fold (λ e p. widen y e p (demand s p) (supply s p)) start ps
 
@@ -78,8 +65,3 @@ nothing = record { volume = 0; gap = 0 }
 
 abbrev pub no_ends : Ends
 no_ends = record { above = None; below = None; low = None; high = None }
-
-abbrev pub is_limit : Terms → Bool
-is_limit (Limit l) = true
-is_limit Market = false
-is_limit MarketToLimit = false
