@@ -4,7 +4,7 @@ ghost use Rattle.std.specs.Prelude.{◌≡◌, ◌≤◌, [], IfOk, vec_capacity
 use std::alloc::{AllocError, Global};
 use words::orders::Order;
 
-#[derive(Drop)]
+#[derive(Debug, Drop)]
 pub struct Scratch {
     pub buys: Vec<Order>,
     pub sells: Vec<Order>,

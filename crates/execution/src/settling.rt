@@ -26,11 +26,8 @@ pub fn left_of(side: Side, order: Order, lines: &[Trade]) -> Order
         left = left.saturating_sub(part_of(side, order.number, *line));
     }
     Order {
-        number: order.number,
-        side: order.side,
-        terms: order.terms,
-        condition: order.condition,
         quantity: left,
+        ..order
     }
 }
 
@@ -42,36 +39,12 @@ fn lower_all(side: Side, orders: &mut [Order], lines: &[Trade])
     }
 }
 
-// Moves those with something open to the front, in their order. Returns how many.
-fn gather_open(orders: &mut [Order]) -> usize
-    ensures items { take result orders.new ≡ filter stands orders.old }
-    ensures within { result ≤ length orders.old }
-{
-    let mut k = 0;
-    for i in 0..orders.len() {
-        if orders[i].quantity > 0 {
-            orders[k] = orders[i];
-            k += 1;
-        }
-    }
-    k
-}
-
-// Settles the orders of a slice, and moves those that stay to the front. Returns how many.
-fn settle_front(side: Side, orders: &mut [Order], lines: &[Trade]) -> usize
-    ensures items { take result orders.new ≡ settled side lines.now orders.old }
-    ensures within { result ≤ length orders.old }
-{
-    lower_all(side, orders, lines);
-    gather_open(orders)
-}
-
 // Each order less what it traded, and those with nothing left taken out.
 pub fn settle(side: Side, orders: &mut Vec<Order>, lines: &[Trade])
     ensures items { orders.new.items ≡ settled side lines.now orders.old.items }
     ensures fewer { vec_len orders.new ≤ vec_len orders.old }
     ensures capacity { vec_capacity orders.new ≡ vec_capacity orders.old }
 {
-    let k = settle_front(side, orders.as_mut_slice(), lines);
-    orders.truncate(k);
+    lower_all(side, orders.as_mut_slice(), lines);
+    orders.retain(|order| order.quantity > 0);
 }

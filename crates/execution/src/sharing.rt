@@ -9,7 +9,7 @@ ghost use Rattle.ranking.specs.Lists.{total};
 
 use crate::executing::rank_ready;
 use crate::scratch::Scratch;
-use pricing::demands::open_at;
+use pricing::standing::Standing;
 use ranking::walks::walk;
 use words::orders::Order;
 use words::sides::Side;
@@ -64,20 +64,12 @@ fn share_on(
 }
 
 // The shares that the order with that number gets when the book is executed at the price.
-pub fn shares(
-    side: Side,
-    buys: &[Order],
-    sells: &[Order],
-    price: u32,
-    number: u16,
-    ranked: &mut Scratch,
-) -> u32
-    requires { (Few buys.now) × (Few sells.now) }
-    ensures { result ≡ traded side number (executed (sides buys.now sells.now) price) }
+pub fn shares(standing: &Standing, side: Side, price: u32, number: u16, ranked: &mut Scratch) -> u32
+    ensures { result ≡ traded side number (executed standing.now price) }
 {
-    let demand = open_at(Side::Buy, buys, price);
-    let supply = open_at(Side::Sell, sells, price);
-    let volume = demand.min(supply);
+    let volume = standing.volume(price);
+    let buys = standing.buys();
+    let sells = standing.sells();
     match side {
         Side::Buy => share_on(side, buys, price, volume, number, &mut ranked.buys),
         Side::Sell => share_on(side, sells, price, volume, number, &mut ranked.sells),

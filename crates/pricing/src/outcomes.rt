@@ -27,12 +27,10 @@ impl Standing<'_> {
         let Some(at) = price else {
             return Outcome::default();
         };
-        let demand = self.demand(at);
-        let supply = self.supply(at);
         Outcome {
             price,
-            volume: demand.min(supply),
-            surplus: surplus_of(demand, supply),
+            volume: self.volume(at),
+            surplus: surplus_of(self.demand(at), self.supply(at)),
         }
     }
 

@@ -1,7 +1,7 @@
 // The standing orders of a book, borrowed: demand and supply at a price.
 ghost use Rattle.std.specs.Prelude.{◌≡◌, ◌≤◌};
 ghost use Rattle.pricing.specs.Passes.{Few};
-ghost use Rattle.pricing.specs.Sides.{sides, demand, supply};
+ghost use Rattle.pricing.specs.Sides.{sides, demand, supply, volume};
 
 use crate::demands::open_at;
 use std::marker::Model;
@@ -35,6 +35,20 @@ impl<'a> Standing<'a> {
         Standing { buys, sells }
     }
 
+    pub fn buys(&self) -> &[Order]
+        ensures value { result.now ≡ self.now.buys }
+        ensures few { Few result.now }
+    {
+        self.buys
+    }
+
+    pub fn sells(&self) -> &[Order]
+        ensures value { result.now ≡ self.now.sells }
+        ensures few { Few result.now }
+    {
+        self.sells
+    }
+
     pub(crate) fn demand(&self, price: u32) -> u32
         ensures value { result ≡ demand self.now price }
         ensures bound { result ≤ 129000000 }
@@ -47,5 +61,12 @@ impl<'a> Standing<'a> {
         ensures bound { result ≤ 129000000 }
     {
         open_at(Side::Sell, self.sells, price)
+    }
+
+    // What the price executes.
+    pub fn volume(&self, price: u32) -> u32
+        ensures { result ≡ volume self.now price }
+    {
+        self.demand(price).min(self.supply(price))
     }
 }
