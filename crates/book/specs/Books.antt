@@ -1,8 +1,9 @@
 -- What a book holds: its standing orders, and an asked one in its own place. Assumes nothing.
-use Rattle.std.specs.Prelude.{ℕ, List, [], ◌∷◌, ◌++◌, Some, None, vec_items, vec_capacity, Option}
+use Rattle.std.specs.Prelude.{◌≡◌, ℕ, ◌≤◌, List, [], ◌∷◌, ◌++◌, Some, None, vec_items, vec_len, vec_capacity, Option}
 use Rattle.words.specs.declared.orders.Order.{Order}
 use Rattle.words.specs.declared.sides.Side.{Side}
 use Rattle.words.specs.declared.sides.Side.TheVariants.{Buy, Sell}
+use Rattle.pricing.specs.Passes.{Few}
 use Rattle.pricing.specs.Sides.{Sides, sides}
 use Rattle.book.specs.declared.table.Book.{Book}
 
@@ -23,6 +24,11 @@ standing_of b = sides (vec_items b.buys) (vec_items b.sells)
 abbrev pub cap_of : Side → Book → ℕ
 cap_of Buy b = vec_capacity b.buys
 cap_of Sell b = vec_capacity b.sells
+
+-- what a change of the standing orders leaves as it is: the place of an asked order, and how many orders each side has memory for
+pub record Keeps (old new : Book) : Type 0 where
+  pub asked : new.asked ≡ old.asked
+  pub capacity : (x : Side) → cap_of x new ≡ cap_of x old
 
 -- one order more on its side, last in time
 abbrev pub joined_on : Side → Sides → Order → Sides
@@ -49,3 +55,10 @@ filled b o = placed b (Some o)
 
 abbrev pub emptied : Book → Book
 emptied b = placed b None
+
+-- a book that can be asked about an order: its sides are not over full, and with the order in it sums of quantities still fit
+pub record Answers (b : Book) (o : Order) : Type 0 where
+  pub buys : vec_len b.buys ≤ 128
+  pub sells : vec_len b.sells ≤ 128
+  pub few_buys : Few (joined (standing_of b) o).buys
+  pub few_sells : Few (joined (standing_of b) o).sells

@@ -32,7 +32,8 @@ impl<'a> WhatIf<'a> {
 
     // A copy of both sides with the asked order.
     pub(crate) fn gather(&self, into: &mut Scratch)
-        requires { (vec_len self.now.book.now.buys ≤ 128) × (vec_len self.now.book.now.sells ≤ 128) }
+        requires buys { vec_len self.now.book.now.buys ≤ 128 }
+        requires sells { vec_len self.now.book.now.sells ≤ 128 }
         ensures { sides into.new.buys.items into.new.sells.items ≡ with_asked self.now.book.now }
     {
         self.book.gather(into);
@@ -55,7 +56,8 @@ fn copy_side(orders: &[Order], out: &mut Vec<Order>)
 impl Book {
     // A copy of both sides, an asked order last in time on its own.
     fn gather(&self, into: &mut Scratch)
-        requires { (vec_len self.now.buys ≤ 128) × (vec_len self.now.sells ≤ 128) }
+        requires buys { vec_len self.now.buys ≤ 128 }
+        requires sells { vec_len self.now.sells ≤ 128 }
         ensures { sides into.new.buys.items into.new.sells.items ≡ with_asked self.now }
     {
         copy_side(self.buys.as_slice(), &mut into.buys);

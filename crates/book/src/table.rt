@@ -1,6 +1,6 @@
 // The table of a book: the standing orders of each side, in the order of their grants.
 ghost use Rattle.std.specs.Prelude.{◌≡◌, ◌+◌, ◌<◌, ◌≤◌, [], length, IfOk, None, vec_len, vec_capacity, slice_index_or, slice_set};
-ghost use Rattle.book.specs.Books.{standing_in, joined, standing_of, other, cap_of};
+ghost use Rattle.book.specs.Books.{standing_in, joined, standing_of, other, cap_of, Keeps};
 ghost use Rattle.execution.specs.Laws.{standing};
 ghost use Rattle.execution.specs.Settling.{after_trades};
 ghost use Rattle.pricing.specs.Sides.{sides};
@@ -13,7 +13,7 @@ use words::sides::Side;
 use words::tape::Trade;
 
 // A plain book. Who stands earlier in a side was granted earlier; a slot that a trade empties is open to the next order.
-#[derive(Drop)]
+#[derive(Debug, Drop)]
 pub struct Book {
     pub buys: Vec<Order>,
     pub sells: Vec<Order>,
@@ -40,8 +40,7 @@ impl Book {
     pub fn enter(&mut self, order: Order)
         requires { length (standing_in order.side self.old) < cap_of order.side self.old }
         ensures standing { standing_of self.new ≡ joined (standing_of self.old) order }
-        ensures asked { self.new.asked ≡ self.old.asked }
-        ensures capacity { (x : Side) → cap_of x self.new ≡ cap_of x self.old }
+        ensures rest { Keeps self.old self.new }
     {
         match order.side {
             Side::Buy => self.buys.push_reserved(order),
@@ -54,8 +53,7 @@ impl Book {
         requires { place < length (standing_in side self.old) }
         ensures changed { standing_in side self.new ≡ slice_set (standing_in side self.old) place (lowered (slice_index_or (standing_in side self.old) place no_order) by) }
         ensures others { standing_in (other side) self.new ≡ standing_in (other side) self.old }
-        ensures asked { self.new.asked ≡ self.old.asked }
-        ensures capacity { (x : Side) → cap_of x self.new ≡ cap_of x self.old }
+        ensures rest { Keeps self.old self.new }
     {
         match side {
             Side::Buy => self.buys[place].reduce(by),
@@ -68,8 +66,7 @@ impl Book {
         requires { place < length (standing_in side self.old) }
         ensures changed { standing_in side self.new ≡ slice_set (standing_in side self.old) place (resized (slice_index_or (standing_in side self.old) place no_order) quantity) }
         ensures others { standing_in (other side) self.new ≡ standing_in (other side) self.old }
-        ensures asked { self.new.asked ≡ self.old.asked }
-        ensures capacity { (x : Side) → cap_of x self.new ≡ cap_of x self.old }
+        ensures rest { Keeps self.old self.new }
     {
         match side {
             Side::Buy => self.buys[place].resize(quantity),
@@ -80,9 +77,8 @@ impl Book {
     // Both sides after the lines: each order less what it traded, and those with nothing left taken out.
     pub fn settle_by(&mut self, lines: &[Trade])
         ensures standing { standing_of self.new ≡ after_trades lines.now (standing_of self.old) }
-        ensures asked { self.new.asked ≡ self.old.asked }
         ensures fewer { (x : Side) → length (standing_in x self.new) ≤ length (standing_in x self.old) }
-        ensures capacity { (x : Side) → cap_of x self.new ≡ cap_of x self.old }
+        ensures rest { Keeps self.old self.new }
     {
         settle(Side::Buy, &mut self.buys, lines);
         settle(Side::Sell, &mut self.sells, lines);
