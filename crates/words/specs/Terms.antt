@@ -28,6 +28,12 @@ limit_of (Limit l) = Some l
 limit_of Market = None
 limit_of MarketToLimit = None
 
+-- the price field of an order: 0 where it has no limit
+abbrev pub price_in : Terms → ℕ
+price_in (Limit l) = l
+price_in Market = 0
+price_in MarketToLimit = 0
+
 -- a limit order has a price in its price field, the others have 0 there
 abbrev pub price_fits : Kind → ℕ → Bool
 price_fits kinds.Limit p = is_price p

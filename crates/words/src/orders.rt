@@ -1,9 +1,9 @@
 // An order of the book.
 ghost use Rattle.std.specs.Prelude.{◌≡◌, ◌≤◌};
-ghost use Rattle.words.specs.Orders.{lowered, resized};
+ghost use Rattle.words.specs.Orders.{lowered, resized, ticket_of};
 
 use crate::sides::Side;
-use crate::terms::{Condition, Terms};
+use crate::terms::{Condition, Kind, Terms};
 
 #[derive(Clone, Copy, Debug, PartialEq, Eq)]
 pub struct Order {
@@ -28,5 +28,27 @@ impl Order {
         ensures { self.new ≡ resized self.old quantity }
     {
         self.quantity = quantity;
+    }
+}
+
+// An order as it is brought, before it has a number: the price field is 0 where the kind has no limit.
+#[derive(Clone, Copy, Debug, PartialEq, Eq)]
+pub struct Ticket {
+    pub side: Side,
+    pub kind: Kind,
+    pub price: u32,
+    pub quantity: u32,
+}
+
+impl From<Order> for Ticket {
+    ghost from_gives = { λ order ticket. ticket ≡ ticket_of order };
+
+    fn from(order: Order) -> Ticket {
+        Ticket {
+            side: order.side,
+            kind: order.terms.kind(),
+            price: order.terms.limit().unwrap_or(0),
+            quantity: order.quantity,
+        }
     }
 }
