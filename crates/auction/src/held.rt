@@ -5,7 +5,7 @@ ghost use Rattle.auction.specs.Sound.{Sound};
 use book::table::Book;
 use execution::scratch::Scratch;
 
-#[derive(Drop)]
+#[derive(Debug, Drop)]
 pub struct Auction {
     book: Book,
     reference: u32,

@@ -3,62 +3,68 @@ ghost use Rattle.std.specs.Prelude.{◌≡◌, ◌≤◌, [], IfOk, None};
 ghost use Rattle.auction.specs.Calls.{Made, order_of, order_rows, order_by, enter_step, ask_reply, preview_reply, strike_step};
 ghost use Rattle.auction.specs.Laws.{LawOfAnswer, LawOfCall, RefusesByNumber};
 ghost use Rattle.auction.specs.States.{view};
+ghost use Rattle.auction.specs.declared.held.calls.MakeError.TheVariants.{NoMemory};
 ghost use Rattle.book.specs.Books.{joined};
 ghost use Rattle.execution.specs.Laws.{standing};
 ghost use Rattle.pricing.specs.Laws.{LawOfPrice};
+ghost use Rattle.pricing.specs.Passes.{Few};
 ghost use Rattle.pricing.specs.Outcomes.{outcome_of};
 ghost use Rattle.pricing.specs.Sides.{open_at};
 ghost use Rattle.words.specs.Refused.{first_due};
 
 use super::Auction;
-use book::asking::{Answer, ask, preview};
-use book::striking::{Struck, strike};
+use book::asking::Answer;
+use book::striking::Struck;
 use book::table::Book;
 use execution::scratch::Scratch;
 use pricing::demands::open_at;
-use pricing::outcomes::{Outcome, find_price};
-use std::alloc::Global;
-use words::orders::Order;
+use pricing::outcomes::Outcome;
+use pricing::standing::Standing;
+use std::alloc::{AllocError, Global};
+use words::orders::{Order, Ticket};
 use words::refusals::Refusal;
 use words::sides::Side;
 use words::tape::Trade;
-use words::terms::{Condition, Kind, Terms};
+use words::terms::{Condition, Terms};
 
 // Why no auction was made.
-#[derive(Clone, Copy)]
+#[derive(Clone, Copy, Debug, PartialEq, Eq)]
 pub enum MakeError {
     Refused(Refusal),
     NoMemory,
 }
 
-// The order that a call brings, of condition none, unless something is wrong with it by itself.
-fn order_with(
-    number: u16,
-    side: Side,
-    kind: Kind,
-    price: u32,
-    quantity: u32,
-) -> Result<Order, Refusal>
-    ensures value { result ≡ order_by (order_of number side kind price quantity) (first_due (order_rows kind price quantity [])) }
-    ensures fit { IfOk result (λ o. (o ≡ order_of number side kind price quantity) × (quantity ≤ 1000000) × (first_due (order_rows kind price quantity []) ≡ None)) }
+impl From<AllocError> for MakeError {
+    ghost from_gives = { λ _ e. e ≡ NoMemory };
+
+    fn from(_e: AllocError) -> MakeError {
+        MakeError::NoMemory
+    }
+}
+
+// The order that a ticket brings, of condition none, unless something is wrong with it by itself.
+fn order_with(number: u16, ticket: Ticket) -> Result<Order, Refusal>
+    ensures value { result ≡ order_by (order_of number ticket.side ticket.kind ticket.price ticket.quantity) (first_due (order_rows ticket.kind ticket.price ticket.quantity [])) }
+    ensures fit { IfOk result (λ o. (o ≡ order_of number ticket.side ticket.kind ticket.price ticket.quantity) × (ticket.quantity ≤ 1000000) × (first_due (order_rows ticket.kind ticket.price ticket.quantity []) ≡ None)) }
 {
-    let terms = Terms::new(kind, price)?;
-    if quantity < 1 || quantity > 1_000_000 {
+    let terms = Terms::new(ticket.kind, ticket.price)?;
+    if !(1..=1_000_000).contains(&ticket.quantity) {
         return Err(Refusal::QuantityUnfit);
     }
     Ok(Order {
         number,
-        side,
+        side: ticket.side,
         terms,
         condition: Condition::Unconditional,
-        quantity,
+        quantity: ticket.quantity,
     })
 }
 
 impl Auction {
     // The standing orders of a side, the earlier granted first.
     pub fn orders(&self, side: Side) -> &[Order]
-        ensures { result.now ≡ standing side (view self.now).sides }
+        ensures standing { result.now ≡ standing side (view self.now).sides }
+        ensures few { Few result.now }
     {
         match side {
             Side::Buy => self.book.buys.as_slice(),
@@ -71,10 +77,7 @@ impl Auction {
         ensures value { result ≡ open_at side price (standing side (view self.now).sides) }
         ensures bound { result ≤ 129000000 }
     {
-        match side {
-            Side::Buy => open_at(side, self.book.buys.as_slice(), price),
-            Side::Sell => open_at(side, self.book.sells.as_slice(), price),
-        }
+        open_at(side, self.orders(side), price)
     }
 
     // The price of the call as it stands, what it executes, and the surplus there.
@@ -82,9 +85,7 @@ impl Auction {
         ensures value { result ≡ outcome_of (view self.now).sides (view self.now).reference }
         ensures law_of_price { LawOfPrice (view self.now).sides (view self.now).reference result.price }
     {
-        let buys = self.book.buys.as_slice();
-        let sells = self.book.sells.as_slice();
-        find_price(buys, sells, self.reference)
+        Standing::new(self.orders(Side::Buy), self.orders(Side::Sell)).outcome(self.reference)
     }
 }
 
@@ -93,39 +94,24 @@ impl Auction {
     pub fn new(heap: Global, reference: u32) -> Result<Auction, MakeError>
         ensures { Made reference result }
     {
-        if reference < 1 || reference > 1_000_000 {
+        if !(1..=1_000_000).contains(&reference) {
             return Err(MakeError::Refused(Refusal::ReferenceUnfit));
         }
-        let Ok(book) = Book::new(heap) else {
-            return Err(MakeError::NoMemory);
-        };
-        let Ok(gathered) = Scratch::new(heap) else {
-            return Err(MakeError::NoMemory);
-        };
-        let Ok(ranked) = Scratch::new(heap) else {
-            return Err(MakeError::NoMemory);
-        };
         Ok(Auction {
-            book,
+            book: Book::new(heap)?,
             reference,
             last: 0,
-            gathered,
-            ranked,
+            gathered: Scratch::new(heap)?,
+            ranked: Scratch::new(heap)?,
         })
     }
 
     // The order stands, last in time. Replies with its number.
-    pub fn enter(
-        &mut self,
-        side: Side,
-        kind: Kind,
-        price: u32,
-        quantity: u32,
-    ) -> Result<u16, Refusal>
-        ensures { (view self.new, result) ≡ enter_step (view self.old) side kind price quantity }
+    pub fn enter(&mut self, ticket: Ticket) -> Result<u16, Refusal>
+        ensures { (view self.new, result) ≡ enter_step (view self.old) ticket.side ticket.kind ticket.price ticket.quantity }
     {
-        let order = order_with(self.last + 1, side, kind, price, quantity)?;
-        if self.orders(side).len() >= 128 {
+        let order = order_with(self.last + 1, ticket)?;
+        if self.orders(ticket.side).len() >= 128 {
             return Err(Refusal::SideFull);
         }
         if self.last >= 60_000 {
@@ -137,54 +123,35 @@ impl Auction {
     }
 
     // What the call would give with one more order in it, and how many shares that order would get. Nothing changes.
-    pub fn ask(
-        &mut self,
-        side: Side,
-        kind: Kind,
-        price: u32,
-        quantity: u32,
-    ) -> Result<Answer, Refusal>
+    pub fn ask(&mut self, ticket: Ticket) -> Result<Answer, Refusal>
         ensures same { self.new.book ≡ self.old.book }
         ensures state { view self.new ≡ view self.old }
-        ensures reply { result ≡ ask_reply (view self.old) side kind price quantity }
-        ensures law_of_answer { IfOk result (λ a. LawOfAnswer (joined (view self.old).sides (order_of 0 side kind price quantity)) (order_of 0 side kind price quantity) (view self.old).reference a) }
+        ensures reply { result ≡ ask_reply (view self.old) ticket.side ticket.kind ticket.price ticket.quantity }
+        ensures law_of_answer { IfOk result (λ a. LawOfAnswer (joined (view self.old).sides (order_of 0 ticket.side ticket.kind ticket.price ticket.quantity)) (order_of 0 ticket.side ticket.kind ticket.price ticket.quantity) (view self.old).reference a) }
     {
-        let order = order_with(0, side, kind, price, quantity)?;
-        Ok(ask(
-            &mut self.book,
-            order,
-            self.reference,
-            &mut self.gathered,
-            &mut self.ranked,
-        ))
+        let order = order_with(0, ticket)?;
+        Ok(self.book.ask(order, self.reference, &mut self.gathered, &mut self.ranked))
     }
 
     // The same question with the trades that the call would make, on a tape of at least 256 places. The auction does not change.
-    pub fn preview(
-        &mut self,
-        side: Side,
-        kind: Kind,
-        price: u32,
-        quantity: u32,
-        tape: &mut [Trade],
-    ) -> Result<Struck, Refusal>
+    pub fn preview(&mut self, ticket: Ticket, tape: &mut [Trade]) -> Result<Struck, Refusal>
         ensures same { self.new.book ≡ self.old.book }
         ensures state { view self.new ≡ view self.old }
-        ensures reply { (tape.new, result) ≡ preview_reply (view self.old) side kind price quantity tape.old }
-        ensures law_of_call { IfOk result (λ k. LawOfCall (joined (view self.old).sides (order_of 0 side kind price quantity)) (view self.old).reference k tape.new) }
+        ensures reply { (tape.new, result) ≡ preview_reply (view self.old) ticket.side ticket.kind ticket.price ticket.quantity tape.old }
+        ensures law_of_call { IfOk result (λ k. LawOfCall (joined (view self.old).sides (order_of 0 ticket.side ticket.kind ticket.price ticket.quantity)) (view self.old).reference k tape.new) }
     {
-        let order = order_with(0, side, kind, price, quantity)?;
+        let order = order_with(0, ticket)?;
         if tape.len() < 256 {
             return Err(Refusal::TapeShort);
         }
-        Ok(preview(
-            &mut self.book,
+        let struck = self.book.preview(
             order,
             self.reference,
             tape,
             &mut self.gathered,
             &mut self.ranked,
-        ))
+        );
+        Ok(struck)
     }
 
     // Strikes the call: its trades are the first lines of the tape, which has at least 256 places, and the book is settled by them.
@@ -195,7 +162,7 @@ impl Auction {
         if tape.len() < 256 {
             return Err(Refusal::TapeShort);
         }
-        Ok(strike(&mut self.book, self.reference, tape, &mut self.ranked))
+        Ok(self.book.strike(self.reference, tape, &mut self.ranked))
     }
 }
 

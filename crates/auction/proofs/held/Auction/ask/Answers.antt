@@ -14,7 +14,7 @@ ask-requires c =
     let o = c.in_ok-order.order in
     let fit = c.in_ok-order.ensures.fit in
     let three = few_joined a.last o.side (standing_of a.book) o a.buys_sound a.sells_sound (omega (arith, fit.1, ap (λ z. z.quantity) fit.0)) in
-    (omega (arith, a.buys_sound.0, a.book.buys.ok.0), (omega (arith, a.sells_sound.0, a.book.sells.ok.0), (three.0, three.1)))
+    record { buys = omega (arith, a.buys_sound.0, a.book.buys.ok.0); sells = omega (arith, a.sells_sound.0, a.book.sells.ok.0); few_buys = three.0; few_sells = three.1 }
 
 pub invariant_of-self : goal.invariant_of-self
 invariant_of-self c =
@@ -30,7 +30,7 @@ returns c =
     record {
       same = same;
       state = ap (λ b. record { reference = a.reference; last = a.last; sides = standing_of b }) same;
-      reply = ap Ok (c.ask.ensures.value ∙ ap (λ o. answer_of s o a.reference) fit.0) ∙ ap (ask_by (view a) c.args.side c.args.kind c.args.price c.args.quantity) (sym fit.2);
+      reply = ap Ok (c.ask.ensures.value ∙ ap (λ o. answer_of s o a.reference) fit.0) ∙ ap (ask_by (view a) c.args.ticket.side c.args.ticket.kind c.args.ticket.price c.args.ticket.quantity) (sym fit.2);
       law_of_answer =
           let o = c.in_ok-order.order in
           let apart = apart_joined a.last o.side s o a.buys_sound a.sells_sound (ap (λ z. z.number) fit.0) in

@@ -10,7 +10,7 @@ invariant_of-self c =
     let o = c.in_ok-order.order in
     let s = standing_of a.book in
     let fit = c.in_ok-order.ensures.fit in
-    let at : o.side ≡ c.args.side = ap (λ z. z.side) fit.0 in
-    let room : length (standing o.side s) < 128 = subst (λ x. length (standing x s) < 128) (sym at) (omega (arith, ap length c.orders.ensures)) in
+    let at : o.side ≡ c.args.ticket.side = ap (λ z. z.side) fit.0 in
+    let room : length (standing o.side s) < 128 = subst (λ x. length (standing x s) < 128) (sym at) (omega (arith, ap length c.orders.ensures.standing)) in
     let both = sound_joined a.last o.side s o a.buys_sound a.sells_sound room (ap (λ z. z.number) fit.0) (omega (arith, fit.1, ap (λ z. z.quantity) fit.0)) in
-    kept_by_sound (a.last + 1) a c.enter.new.self (joined s o) c.enter.ensures.standing both.0 both.1 c.enter.ensures.capacity c.enter.ensures.asked (omega arith)
+    kept_by_sound (a.last + 1) a c.enter.new.self (joined s o) c.enter.ensures.standing both.0 both.1 c.enter.ensures.rest.capacity c.enter.ensures.rest.asked (omega arith)

@@ -10,13 +10,13 @@ use Rattle.auction.proofs.held.Auction.strike.Goals as goal
 pub strike-requires : goal.strike-requires
 strike-requires c =
     let a = c.args.self.now in
-    (few _ _ a.buys_sound, (few _ _ a.sells_sound, omega (arith, a.buys_sound.0, a.sells_sound.0)))
+    record { buys = few _ _ a.buys_sound; sells = few _ _ a.sells_sound; room = omega (arith, a.buys_sound.0, a.sells_sound.0) }
 
 pub invariant_of-self : goal.invariant_of-self
 invariant_of-self c =
     let a = c.args.self.now in
     let both = sound_struck a.last a.reference (standing_of a.book) a.buys_sound a.sells_sound in
-    kept_by_sound a.last a c.strike.new.book _ c.strike.ensures.standing both.0 both.1 c.strike.ensures.capacity c.strike.ensures.asked a.numbers
+    kept_by_sound a.last a c.strike.new.self _ c.strike.ensures.standing both.0 both.1 c.strike.ensures.rest.capacity c.strike.ensures.rest.asked a.numbers
 
 pub returns : goal.returns
 returns c =
