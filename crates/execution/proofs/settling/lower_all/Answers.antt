@@ -1,6 +1,6 @@
-use Rattle.std.proofs.Common.{◌++◌, map, get_or, set, ap, ◌∙◌, ap₂, arith}
+use Rattle.std.proofs.Common.{get_or, set, ap, ◌∙◌, arith}
 use Rattle.std.proofs.lemmas.List.Edits.{map_over_more}
-use Rattle.std.proofs.lemmas.List.{take_all, drop_all, append-nil, get_or_default}
+use Rattle.std.proofs.lemmas.List.{get_or_default}
 use Rattle.words.specs.Orders.{no_order}
 use Rattle.execution.specs.Settling.{left_by}
 use Rattle.execution.proofs.settling.lower_all.Goals as goal
@@ -12,10 +12,3 @@ loop-order-preserved c =
     let x = get_or l.orders i no_order in
     ap (set l.orders i) c.left_of.ensures
     ∙ map_over_more (left_by c.args.side c.args.lines.now) c.args.orders.now l.orders i x c.loop-order-test.true l.invariant (get_or_default l.orders i no_order x (omega arith))
-
-pub returns : goal.returns
-returns c =
-    let l = c.loop-order in
-    let xs = c.args.orders.now in
-    let f = left_by c.args.side c.args.lines.now in
-    l.invariant ∙ ap₂ (λ a b. map f a ++ b) (take_all l.order-index xs c.loop-order-test.false) (drop_all l.order-index xs c.loop-order-test.false) ∙ append-nil (map f xs)

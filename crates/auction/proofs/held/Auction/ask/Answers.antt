@@ -1,9 +1,6 @@
-use Rattle.std.proofs.Common.{Ok, sym, ap, ◌∙◌, subst, arith}
-use Rattle.book.specs.Asking.{answer_of}
+use Rattle.std.proofs.Common.{sym, ap, ◌∙◌, subst, arith}
 use Rattle.book.specs.Books.{standing_of, joined}
-use Rattle.auction.specs.Calls.{ask_by}
 use Rattle.auction.specs.Laws.{LawOfAnswer}
-use Rattle.auction.specs.States.{view}
 use Rattle.auction.proofs.Sounds.{few_joined, apart_joined, in_joined, empty_again, Kept, kept}
 use Rattle.auction.proofs.Trades.{answer_law}
 use Rattle.auction.proofs.held.Auction.ask.Goals as goal
@@ -21,18 +18,11 @@ invariant_of-self c =
     let a = c.args.self.now in
     subst (Kept a.last) (sym (c.ask.ensures.after ∙ empty_again a.book a.clear)) (kept a)
 
-pub returns : goal.returns
-returns c =
+pub returns-clause-law_of_answer : goal.returns-clause-law_of_answer
+returns-clause-law_of_answer c =
     let a = c.args.self.now in
     let s = standing_of a.book in
-    let fit = c.in_ok-order.ensures.fit in
-    let same = c.ask.ensures.after ∙ empty_again a.book a.clear in
-    record {
-      same = same;
-      state = ap (λ b. record { reference = a.reference; last = a.last; sides = standing_of b }) same;
-      reply = ap Ok (c.ask.ensures.value ∙ ap (λ o. answer_of s o a.reference) fit.0) ∙ ap (ask_by (view a) c.args.ticket.side c.args.ticket.kind c.args.ticket.price c.args.ticket.quantity) (sym fit.2);
-      law_of_answer =
-          let o = c.in_ok-order.order in
-          let apart = apart_joined a.last o.side s o a.buys_sound a.sells_sound (ap (λ z. z.number) fit.0) in
-          subst (λ z. LawOfAnswer (joined s z) z a.reference c.ask.result) fit.0 (answer_law (joined s o) a.reference o c.ask.result apart.0 apart.1 (in_joined o.side s o) c.ask.ensures.value c.ask.ensures.law_of_price);
-    }
+    let o = c.in_ok-order.order in
+    let is = c.in_ok-order.ensures.fit.0 in
+    let apart = apart_joined a.last o.side s o a.buys_sound a.sells_sound (ap (λ z. z.number) is) in
+    subst (λ z. LawOfAnswer (joined s z) z a.reference c.ask.result) is (answer_law (joined s o) a.reference o c.ask.result apart.0 apart.1 (in_joined o.side s o) c.ask.ensures.value c.ask.ensures.law_of_price)

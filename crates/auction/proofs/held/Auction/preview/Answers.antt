@@ -1,52 +1,36 @@
-use Rattle.std.proofs.Common.{◌≡◌, Ok, Err, sym, ap, ◌∙◌, subst, arith, rules}
-use Rattle.execution.specs.Execution.{written}
+use Rattle.std.proofs.Common.{◌≡◌, Err, sym, ap, ◌∙◌, subst, arith, rules}
 use Rattle.book.specs.Books.{standing_of, joined}
-use Rattle.book.specs.Striking.{trades_of, struck_of}
 use Rattle.auction.specs.Calls.{preview_by, tape_row}
 use Rattle.auction.specs.Laws.{LawOfCall}
 use Rattle.auction.specs.States.{view}
-use Rattle.auction.proofs.Dues.{tape_long, order_first, order_refused}
+use Rattle.auction.proofs.Dues.{order_refused}
 use Rattle.auction.proofs.Sounds.{few_joined, apart_joined, empty_again, Kept, kept}
 use Rattle.auction.proofs.Trades.{call_law}
 use Rattle.auction.proofs.held.Auction.preview.Goals as goal
 
-pub preview-struck-requires : goal.preview-struck-requires
-preview-struck-requires c =
+pub preview-struck-requires-clause-answers : goal.preview-struck-requires-clause-answers
+preview-struck-requires-clause-answers c =
     let a = c.args.self.now in
     let o = c.in_ok-order.order in
     let fit = c.in_ok-order.ensures.fit in
     let three = few_joined a.last o.side (standing_of a.book) o a.buys_sound a.sells_sound (omega (arith, fit.1, ap (λ z. z.quantity) fit.0)) in
-    record {
-      answers = record { buys = omega (arith, a.buys_sound.0, a.book.buys.ok.0); sells = omega (arith, a.sells_sound.0, a.book.sells.ok.0); few_buys = three.0; few_sells = three.1 };
-      room = omega (arith, three.2);
-    }
+    record { buys = omega (arith, a.buys_sound.0, a.book.buys.ok.0); sells = omega (arith, a.sells_sound.0, a.book.sells.ok.0); few_buys = three.0; few_sells = three.1 }
 
 pub invariant_of-self : goal.invariant_of-self
 invariant_of-self c =
     let a = c.args.self.now in
     subst (Kept a.last) (sym (c.preview-struck.ensures.after ∙ empty_again a.book a.clear)) (kept a)
 
-pub returns : goal.returns
-returns c =
+pub returns-clause-law_of_call : goal.returns-clause-law_of_call
+returns-clause-law_of_call c =
     let a = c.args.self.now in
-    let tape = c.args.tape.now in
     let s = standing_of a.book in
-    let k = c.args.ticket.kind in
+    let o = c.in_ok-order.order in
     let fit = c.in_ok-order.ensures.fit in
     let e = c.preview-struck.ensures in
-    let same = e.after ∙ empty_again a.book a.clear in
-    let lines = e.lines ∙ ap (λ o. written (trades_of (joined s o) a.reference) tape) fit.0 in
-    let value = e.value ∙ ap (λ o. struck_of (joined s o) a.reference) fit.0 in
-    let nothing_due = order_first k c.args.ticket.price c.args.ticket.quantity (tape_row tape) fit.2 ∙ tape_long tape c.if-tape-lt256.false in
-    let o = c.in_ok-order.order in
     let apart = apart_joined a.last o.side s o a.buys_sound a.sells_sound (ap (λ z. z.number) fit.0) in
     let three = few_joined a.last o.side s o a.buys_sound a.sells_sound (omega (arith, fit.1, ap (λ z. z.quantity) fit.0)) in
-    record {
-      same = same;
-      state = ap (λ b. record { reference = a.reference; last = a.last; sides = standing_of b }) same;
-      reply = (λ i. (lines i, Ok (value i))) ∙ ap (preview_by (view a) c.args.ticket.side k c.args.ticket.price c.args.ticket.quantity tape) (sym nothing_due);
-      law_of_call = subst (λ z. LawOfCall (joined s z) a.reference c.preview-struck.result c.preview-struck.new.tape) fit.0 (call_law (joined s o) a.reference c.preview-struck.result tape c.preview-struck.new.tape apart.0 apart.1 three.2 e.value e.lines e.law_of_price);
-    }
+    subst (λ z. LawOfCall (joined s z) a.reference c.preview-struck.result c.preview-struck.new.tape) fit.0 (call_law (joined s o) a.reference c.preview-struck.result c.args.tape.now c.preview-struck.new.tape apart.0 apart.1 three.2 e.value e.lines e.law_of_price)
 
 pub returns-in_err-order-clause-reply : goal.returns-in_err-order-clause-reply
 returns-in_err-order-clause-reply c =
