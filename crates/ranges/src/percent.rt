@@ -17,7 +17,7 @@ const EXTENDED: u8 = 5;
 #[derive(Clone, Copy, Debug, PartialEq, Eq)]
 struct Width {
     tenths: u16,
-    ghost is_width: { is_width tenths ≡ true },
+    ghost in_range: { is_width tenths ≡ true },
 }
 
 impl TryFrom<u16> for Width {
