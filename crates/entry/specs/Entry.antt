@@ -1,5 +1,5 @@
 -- Which orders enter, by kind, by condition, and by what the phase is. Assumes nothing.
-use Rattle.std.specs.Prelude.{Bool, true, false, cond, Some, None, Option}
+use Rattle.std.specs.Prelude.{Bool, true, false, cond, Some, None, Option, Ok, Err, Result}
 use Rattle.words.specs.declared.phases.PhaseKind.{PhaseKind}
 use Rattle.words.specs.declared.phases.PhaseKind.TheVariants.{Call, Continuous}
 use Rattle.words.specs.declared.refusals.Refusal.{Refusal}
@@ -8,8 +8,6 @@ use Rattle.words.specs.declared.terms.Kind.{Kind}
 use Rattle.words.specs.declared.terms.Kind.TheVariants.{Limit, Market, MarketToLimit}
 use Rattle.words.specs.declared.terms.Condition.{Condition}
 use Rattle.words.specs.declared.terms.Condition.TheVariants.{Unconditional, ImmediateOrCancel, FillOrKill, BookOrCancel}
-use Rattle.entry.specs.declared.table.Entry.{Entry}
-use Rattle.entry.specs.declared.table.Entry.TheVariants.{Enters, Never, NotInThisPhase}
 
 -- a limit order may have any condition, a market order any but book-or-cancel, a market-to-limit order none
 abbrev pub may_have : Kind → Condition → Bool
@@ -32,11 +30,11 @@ takes Call FillOrKill = false
 takes Call BookOrCancel = false
 takes Continuous c = true
 
-abbrev pub entry_of : Kind → Condition → PhaseKind → Entry
-entry_of k c p = cond (may_have k c) (cond (takes p c) Enters NotInThisPhase) Never
+-- what an order meets: it enters, or it is refused as a pair that never enters, or for the phase alone
+abbrev pub entry_of : Kind → Condition → PhaseKind → Result (Unit {0}) Refusal
+entry_of k c p = cond (may_have k c) (cond (takes p c) (Ok tt) (Err PairNotOfPhase)) (Err PairNeverEnters)
 
 -- what an order that does not enter is refused for
-abbrev pub entry_refusal : Entry → Option Refusal
-entry_refusal Enters = None
-entry_refusal Never = Some PairNeverEnters
-entry_refusal NotInThisPhase = Some PairNotOfPhase
+abbrev pub entry_refusal : Result (Unit {0}) Refusal → Option Refusal
+entry_refusal (Ok _) = None
+entry_refusal (Err why) = Some why

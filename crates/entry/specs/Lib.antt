@@ -1,2 +1,1 @@
 pub mod Entry
-pub mod Places

@@ -20,6 +20,10 @@ within width anchor price = nat_le (distance price anchor * 1000) (width * ancho
 abbrev pub within_extended : ℕ → ℕ → ℕ → Bool
 within_extended width anchor price = nat_le (distance price anchor * 2000) (5 * width * anchor)
 
+-- at most so many halves of the width's part of the anchor away from it
+abbrev pub within_halves : ℕ → ℕ → ℕ → ℕ → Bool
+within_halves halves width anchor price = nat_le (distance price anchor * 2000) (halves * width * anchor)
+
 abbrev pub percent : ℕ → ℕ → Ranges
 percent static_width dynamic_width = record {
   static = within static_width;

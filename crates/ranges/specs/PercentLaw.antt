@@ -16,8 +16,8 @@ percent_meaning set = ghosts.meaning set
 abbrev pub Made : ℕ → ℕ → Result PercentSet Refusal → Type 0
 Made static_width dynamic_width (Ok set) =
     (first_due (make_rows static_width dynamic_width) ≡ None)
-    × (set.static_width ≡ static_width)
-    × (set.dynamic_width ≡ dynamic_width)
+    × (set.static_width.tenths ≡ static_width)
+    × (set.dynamic_width.tenths ≡ dynamic_width)
     × (percent_meaning set ≡ percent static_width dynamic_width)
 Made static_width dynamic_width (Err why) = first_due (make_rows static_width dynamic_width) ≡ Some why
 

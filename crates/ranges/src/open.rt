@@ -5,7 +5,7 @@ mod making;
 
 use crate::sets::RangeSet;
 
-#[derive(Clone, Copy)]
+#[derive(Clone, Copy, Debug, Default, PartialEq, Eq)]
 pub struct OpenSet;
 
 impl RangeSet for OpenSet {

@@ -9,22 +9,6 @@ use words::phases::{Phase, PhaseKind, Stage, StrikeResult};
 use words::refusals::Refusal;
 use words::terms::{Condition, Kind};
 
-// Which of its ranges a set is asked about.
-#[derive(Clone, Copy)]
-enum Range {
-    Static,
-    Dynamic,
-    ExtendedStatic,
-    ExtendedDynamic,
-}
-
-const RANGES: [Range; 4] = [
-    Range::Static,
-    Range::Dynamic,
-    Range::ExtendedStatic,
-    Range::ExtendedDynamic,
-];
-
 const WIDTHS: [(u16, u16); 8] = [
     (1, 1000),
     (1000, 1),
@@ -109,45 +93,35 @@ const RESULTS: [StrikeResult; 4] = [
     StrikeResult::Held,
 ];
 
-fn inside<R: RangeSet>(set: &R, range: Range, price: u32, anchor: u32) -> bool {
-    match range {
-        Range::Static => set.inside_static(price, anchor),
-        Range::Dynamic => set.inside_dynamic(price, anchor),
-        Range::ExtendedStatic => set.inside_extended_static(price, anchor),
-        Range::ExtendedDynamic => set.inside_extended_dynamic(price, anchor),
-    }
+// 0, or the number of what is refused.
+fn refused_with<T: Drop>(made: Result<T, Refusal>) -> u8 {
+    made.err().map_or(0, Refusal::number)
 }
 
 // The last price inside on the way down from the anchor, and on the way up as far as four times the anchor.
-fn ends<R: RangeSet>(set: &R, range: Range, anchor: u32) -> (u32, u32) {
-    let mut lowest = anchor;
-    for price in (0..anchor).rev() {
-        if !inside(set, range, price, anchor) {
-            break;
-        }
-        lowest = price;
-    }
-    let mut highest = anchor;
-    for price in anchor..=anchor.saturating_mul(4) {
-        if !inside(set, range, price, anchor) {
-            break;
-        }
-        highest = price;
-    }
-    (lowest, highest)
+fn ends<F: Fn(u32) -> bool>(anchor: u32, inside: F) -> (u32, u32)
+    requires { F.IsAlwaysCallable inside }
+{
+    let down = (0..anchor).rev().take_while(|&price| inside(price));
+    let up = (anchor..=anchor.saturating_mul(4)).take_while(|&price| inside(price));
+    (down.last().unwrap_or(anchor), up.last().unwrap_or(anchor))
 }
 
-fn print_ends<R: RangeSet>(rt: &HostRuntime, set: &R, anchor: u32) -> anyhow::Result<()> {
+fn print_ends(rt: &impl Print, set: &impl RangeSet, anchor: u32) -> anyhow::Result<()> {
     print!(rt; "{anchor}:")?;
-    for range in RANGES {
-        let (lowest, highest) = ends(set, range, anchor);
+    for (lowest, highest) in [
+        ends(anchor, |price| set.inside_static(price, anchor)),
+        ends(anchor, |price| set.inside_dynamic(price, anchor)),
+        ends(anchor, |price| set.inside_extended_static(price, anchor)),
+        ends(anchor, |price| set.inside_extended_dynamic(price, anchor)),
+    ] {
         print!(rt; " {lowest}-{highest}")?;
     }
     println!(rt)?;
     Ok(())
 }
 
-fn print_percent_sets(rt: &HostRuntime) -> anyhow::Result<()> {
+fn print_percent_sets(rt: &impl Print) -> anyhow::Result<()> {
     for (static_width, dynamic_width) in WIDTHS {
         println!(rt; "widths {static_width} {dynamic_width}")?;
         match PercentSet::new(static_width, dynamic_width) {
@@ -156,40 +130,32 @@ fn print_percent_sets(rt: &HostRuntime) -> anyhow::Result<()> {
                     print_ends(rt, &set, anchor)?;
                 }
             }
-            Err(why) => {
-                let number = why.number();
-                println!(rt; "refused {number}")?;
-            }
+            Err(why) => println!(rt; "refused {}", why.number())?,
         }
     }
     Ok(())
 }
 
-// Whether a percent set is made of two widths: 0, or what it is refused for.
-fn print_makings(rt: &HostRuntime) -> anyhow::Result<()> {
+// Whether a percent set is made of two widths.
+fn print_makings(rt: &impl Print) -> anyhow::Result<()> {
     for (static_width, dynamic_width) in MAKINGS {
-        let refused = match PercentSet::new(static_width, dynamic_width) {
-            Ok(_) => 0,
-            Err(why) => why.number(),
-        };
+        let refused = refused_with(PercentSet::new(static_width, dynamic_width));
         println!(rt; "made of {static_width} {dynamic_width}: {refused}")?;
     }
     Ok(())
 }
 
-// For each pair of kind and condition: 0 where it enters, or what it is refused for, in a call and in continuous trading.
-fn print_table(rt: &HostRuntime) -> anyhow::Result<()> {
+// Whether each pair of kind and condition enters, in a call and in continuous trading.
+fn print_table(rt: &impl Print) -> anyhow::Result<()> {
     for kind in KINDS {
         for condition in CONDITIONS {
-            let kind_code = kind.code();
-            let condition_code = condition.code();
-            print!(rt; "kind {kind_code} condition {condition_code}:")?;
+            print!(rt;
+                "kind {} condition {}:",
+                u8::from(kind),
+                u8::from(condition)
+            )?;
             for phase in [PhaseKind::Call, PhaseKind::Continuous] {
-                let refused = match entry_for(kind, condition, phase).refusal() {
-                    None => 0,
-                    Some(why) => why.number(),
-                };
-                print!(rt; " {refused}")?;
+                print!(rt; " {}", refused_with(entry_for(kind, condition, phase)))?;
             }
             println!(rt)?;
         }
@@ -197,32 +163,28 @@ fn print_table(rt: &HostRuntime) -> anyhow::Result<()> {
     Ok(())
 }
 
-fn print_numbers(rt: &HostRuntime) -> anyhow::Result<()> {
+fn print_numbers(rt: &impl Print) -> anyhow::Result<()> {
     for phase in PHASES {
-        let code = phase.code();
         let kind = match phase.kind() {
             Some(PhaseKind::Call) => "call",
             Some(PhaseKind::Continuous) => "continuous",
             None => "ended",
         };
-        println!(rt; "phase {code} {kind}")?;
+        println!(rt; "phase {} {kind}", u8::from(phase))?;
     }
     for stage in [Stage::First, Stage::Extended, Stage::Held] {
-        let code = stage.code();
-        println!(rt; "stage {code}")?;
+        println!(rt; "stage {}", u8::from(stage))?;
     }
     for result in RESULTS {
-        let code = result.code();
-        println!(rt; "result {code}")?;
+        println!(rt; "result {}", u8::from(result))?;
     }
     for refusal in REFUSALS {
-        let number = refusal.number();
-        println!(rt; "refusal {number}")?;
+        println!(rt; "refusal {}", refusal.number())?;
     }
     Ok(())
 }
 
-fn run(rt: &HostRuntime) -> anyhow::Result<()> {
+fn run(rt: &impl Print) -> anyhow::Result<()> {
     print_percent_sets(rt)?;
     println!(rt; "open")?;
     print_ends(rt, &OpenSet::new(), 1000)?;

@@ -2,7 +2,7 @@
 ghost use Rattle.std.specs.Prelude.{IfOk};
 ghost use Rattle.ranges.specs.PercentLaw.{percent_meaning, Made, LawOfMaking, LawOfPercent};
 
-use super::PercentSet;
+use super::{PercentSet, Width};
 use words::refusals::Refusal;
 
 impl PercentSet {
@@ -12,12 +12,9 @@ impl PercentSet {
         ensures law_of_making { LawOfMaking static_width dynamic_width result }
         ensures law_of_ranges { IfOk result (λ set. LawOfPercent static_width dynamic_width (percent_meaning set)) }
     {
-        if static_width < 1 || static_width > 1000 || dynamic_width < 1 || dynamic_width > 1000 {
-            return Err(Refusal::ReferenceUnfit);
-        }
         Ok(PercentSet {
-            static_width,
-            dynamic_width,
+            static_width: Width::try_from(static_width)?,
+            dynamic_width: Width::try_from(dynamic_width)?,
         })
     }
 }
