@@ -1,6 +1,5 @@
 // The words of a line, and which of them are known.
 ghost use Rattle.std.specs.Prelude.{◌≡◌};
-ghost use Rattle.std.specs.Str.{bytes_eq};
 ghost use Rattle.study.specs.Wording.{words_of, cut, ended, side_of, kind_of};
 
 use crate::faults::Reason;
@@ -20,12 +19,6 @@ pub(crate) fn next_word<'a>(line: &'a [u8]) -> Option<(&'a [u8], &'a [u8])>
     Some(text.split_at(size))
 }
 
-pub(crate) fn same(word: &[u8], known: &[u8]) -> bool
-    ensures { result ≡ bytes_eq word.now known.now }
-{
-    word == known
-}
-
 // That no word is left.
 pub(crate) fn check_end(rest: &[u8]) -> Result<(), Reason>
     ensures { result ≡ ended (words_of rest.now) }
@@ -39,12 +32,10 @@ pub(crate) fn check_end(rest: &[u8]) -> Result<(), Reason>
 pub(crate) fn side(word: &[u8]) -> Result<Side, Reason>
     ensures { result ≡ side_of word.now }
 {
-    if same(word, b"buy") {
-        Ok(Side::Buy)
-    } else if same(word, b"sell") {
-        Ok(Side::Sell)
-    } else {
-        Err(Reason::UnknownWord)
+    match word {
+        b"buy" => Ok(Side::Buy),
+        b"sell" => Ok(Side::Sell),
+        _ => Err(Reason::UnknownWord),
     }
 }
 
@@ -52,11 +43,11 @@ pub(crate) fn side(word: &[u8]) -> Result<Side, Reason>
 pub(crate) fn kind(word: &[u8]) -> Result<Kind, Reason>
     ensures { result ≡ kind_of word.now }
 {
-    if same(word, b"at") {
+    if word == b"at".as_slice() {
         Ok(Kind::Limit)
-    } else if same(word, b"market") {
+    } else if word == b"market".as_slice() {
         Ok(Kind::Market)
-    } else if same(word, b"market-to-limit") {
+    } else if word == b"market-to-limit".as_slice() {
         Ok(Kind::MarketToLimit)
     } else {
         Err(Reason::UnknownWord)
