@@ -11,3 +11,4 @@ pub mod Soundness
 pub mod Inked
 pub mod Spelling
 pub mod Retelling
+pub mod Places

@@ -5,15 +5,14 @@ use Rattle.std.proofs.lemmas.Bool.{and_parts}
 use Rattle.std.proofs.lemmas.Str.Parse.{IsNumeralModel, numerals_by_fold}
 use Rattle.std.proofs.lemmas.Fmt.{decimal_digit, decimal_from_appends, digits_decimal, digits_value-decimal, decimal_nonempty, length-decimal-le}
 use Rattle.std.proofs.lemmas.Bool.Decides.{nat_tests}
-use Rattle.study.specs.declared.scanning.Class.TheVariants.{Digit}
 use Rattle.study.specs.declared.faults.Reason.{Reason}
 use Rattle.study.specs.declared.faults.Reason.TheVariants.{PriceMalformed}
-use Rattle.study.specs.Bytes.{belongs, all}
+use Rattle.study.specs.Bytes.{all, is_digit}
 use Rattle.study.specs.Numbers.{value, value_after, is_number, quantity_of, in_stotinki, decimal_price, point_at, price_of}
 use Rattle.study.specs.Written.{digits, written, written_price}
 use Rattle.study.proofs.Points.{at_point}
 
-own : IsNumeralModel (λ ds. all (belongs Digit) ds ≡ true) value
+own : IsNumeralModel (λ ds. all is_digit ds ≡ true) value
 own = numerals_by_fold _ (search rules) value_after (search rules)
 
 pub same : (n : ℕ) → n < 2 ^ 32 → written n ≡ decimal n
@@ -22,7 +21,7 @@ same n small = decimal_from_appends digits (search rules) 10 n (omega arith) (le
 -- what is written is a number, that number
 pub record Reads (n : ℕ) (bs : List ℕ) : Type 0 where
   pub some : 0 < length bs
-  pub figures : all (belongs Digit) bs ≡ true
+  pub figures : all is_digit bs ≡ true
   pub worth : value bs ≡ n
 
 pub written_reads : (n : ℕ) → n ≤ 1000000 → Reads n (written n)
@@ -34,10 +33,10 @@ quantity_reads : (n : ℕ) (bs : List ℕ) → 1 ≤ n → n ≤ 1000000 → Rea
 quantity_reads n bs low high r = let a = r.some in let b = r.figures in let e = r.worth in grind (arith, nat_tests)
 
 -- the first point stands right after the digits before it
-first_point : (bs ds : List ℕ) → all (belongs Digit) bs ≡ true → length bs ≡ point_at (bs ++ (46 ∷ ds))
+first_point : (bs ds : List ℕ) → all is_digit bs ≡ true → length bs ≡ point_at (bs ++ (46 ∷ ds))
 first_point [] ds h = refl
 first_point (b ∷ bs) ds h =
-    let here = and_parts (belongs Digit b) (all (belongs Digit) bs) h in
+    let here = and_parts (is_digit b) (all is_digit bs) h in
     let rest = first_point bs ds here.1 in
     let digit = here.0 in
     grind (arith, nat_tests)

@@ -3,8 +3,8 @@ ghost use Rattle.std.specs.Prelude.{◌≡◌, ℕ, ◌+◌, ◌-◌, ◌*◌, �
 ghost use Rattle.study.specs.Numbers.{value, is_number, quantity_of, ranged_price, decimal_price, price_of};
 ghost use Rattle.study.specs.Written.{written, written_price};
 
+use crate::bytes::{all_digits, find};
 use crate::faults::Reason;
-use crate::scanning::{Class, every, run};
 use std::fmt;
 
 // The largest quantity, and the largest price in stotinki.
@@ -36,7 +36,7 @@ fn number(digits: &[u8]) -> u32
 fn is_number_word(word: &[u8]) -> bool
     ensures { result ≡ is_number word.now }
 {
-    !word.is_empty() && every(Class::Digit, word)
+    !word.is_empty() && all_digits(word)
 }
 
 // The quantity that the word writes: digits, and from 1 to 1,000,000. Every quantity, written in decimal digits, reads as itself.
@@ -83,14 +83,11 @@ pub fn price(word: &[u8]) -> Result<u32, Reason>
     ensures value { result ≡ price_of word.now }
     ensures written { (p : ℕ) → 1 ≤ p → p ≤ 1000000 → word.now ≡ written_price p → result ≡ Ok p }
 {
-    let point = run(Class::Whole, word);
-    if point < word.len() {
-        return with_decimals(&word[0..point], &word[point + 1..]);
+    match find(b'.', word) {
+        Some(point) => with_decimals(&word[..point], &word[point + 1..]),
+        None if is_number_word(word) => ranged(100 * number(word)),
+        None => Err(Reason::PriceMalformed),
     }
-    if !is_number_word(word) {
-        return Err(Reason::PriceMalformed);
-    }
-    ranged(100 * number(word))
 }
 
 // A price in stotinki, shown in leva with two decimals.

@@ -5,9 +5,9 @@ ghost use Rattle.study.specs.Sound.{Sound};
 ghost use Rattle.study.specs.Writer.{written_study};
 ghost use Rattle.study.specs.Views.{view, content, cut_line, Agrees};
 
+use crate::bytes::find;
 use crate::drafts::Draft;
 use crate::faults::StudyError;
-use crate::scanning::{Class, run};
 use std::alloc::Global;
 use words::orders::Order;
 
@@ -27,11 +27,10 @@ fn next_line<'a>(text: &'a [u8]) -> Option<(&'a [u8], &'a [u8])>
     if text.is_empty() {
         return None;
     }
-    let (line, rest) = text.split_at(run(Class::Line, text));
-    if rest.is_empty() {
-        return Some((line, rest));
+    match find(b'\n', text) {
+        Some(end) => Some((&text[..end], &text[end + 1..])),
+        None => Some((text, &[])),
     }
-    Some((line, &rest[1..]))
 }
 
 // Takes over every line, and says how many there are.

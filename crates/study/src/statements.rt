@@ -3,9 +3,9 @@ ghost use Rattle.std.specs.Prelude.{◌≡◌};
 ghost use Rattle.study.specs.Wording.{words_of};
 ghost use Rattle.study.specs.Statements.{last_price, terms_of, order_from, order_of, statement_of, line_of};
 
+use crate::bytes::{all_comment, all_plain, find};
 use crate::faults::Reason;
 use crate::numbers::{price, quantity};
-use crate::scanning::{Class, every, run};
 use crate::wording::{check_end, kind, next_word, side};
 use words::orders::Order;
 use words::sides::Side;
@@ -89,8 +89,8 @@ fn statement(text: &[u8]) -> Result<Line, Reason>
 pub(crate) fn read_line(line: &[u8]) -> Result<Line, Reason>
     ensures { result ≡ line_of line.now }
 {
-    let (text, comment) = line.split_at(run(Class::Statement, line));
-    if !every(Class::Plain, text) || !every(Class::Comment, comment) {
+    let (text, comment) = line.split_at(find(b'#', line).unwrap_or(line.len()));
+    if !all_plain(text) || !all_comment(comment) {
         return Err(Reason::NotText);
     }
     statement(text)

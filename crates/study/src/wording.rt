@@ -1,22 +1,35 @@
 // The words of a line, and which of them are known.
-ghost use Rattle.std.specs.Prelude.{◌≡◌};
+ghost use Rattle.std.specs.Prelude.{◌≡◌, ◌≤◌, length};
+ghost use Rattle.std.specs.List.{position, prefix_len};
+ghost use Rattle.study.specs.Bytes.{is_word};
 ghost use Rattle.study.specs.Wording.{words_of, cut, ended, side_of, kind_of};
 
+use crate::bytes::is_white;
 use crate::faults::Reason;
-use crate::scanning::{Class, run};
 use words::sides::Side;
 use words::terms::Kind;
+
+// The place where the first word begins.
+fn word_start(line: &[u8]) -> Option<usize>
+    ensures { result ≡ position is_word line.now }
+{
+    line.iter().position(|&byte| !is_white(byte))
+}
+
+// How many bytes stand before white space.
+fn word_len(text: &[u8]) -> usize
+    ensures value { result ≡ prefix_len is_word text.now }
+    ensures bound { result ≤ length text.now }
+{
+    text.iter().take_while(|&&byte| !is_white(byte)).count()
+}
 
 // The first word, and what follows it; nothing where there is only white space.
 pub(crate) fn next_word<'a>(line: &'a [u8]) -> Option<(&'a [u8], &'a [u8])>
     ensures { words_of line.now ≡ cut result }
 {
-    let (_, text) = line.split_at(run(Class::White, line));
-    let size = run(Class::Word, text);
-    if size == 0 {
-        return None;
-    }
-    Some(text.split_at(size))
+    let text = &line[word_start(line)?..];
+    Some(text.split_at(word_len(text)))
 }
 
 // That no word is left.
