@@ -13,24 +13,14 @@ const MOST: u32 = 1_000_000;
 // One past the largest: every number from here on is as much too large as this one.
 const OVER: u32 = 1_000_001;
 
-// The number that has one digit more.
-fn grown(number: u32, digit: u8) -> u32
-    requires { number ≤ 1000001 }
-    ensures { result ≡ min (number * 10 + (digit - 48)) 1000001 }
-{
-    let next = number * 10 + u32::from(digit.saturating_sub(b'0'));
-    if next < OVER { next } else { OVER }
-}
-
 // The number that the digits write, or OVER where that is less.
 fn number(digits: &[u8]) -> u32
     ensures { result ≡ min (value digits.now) 1000001 }
 {
-    let mut sum = 0;
-    for digit in digits {
-        sum = grown(sum, *digit);
-    }
-    sum
+    digits.iter().fold(0u32, |sum, &digit| {
+        let digit = u32::from(digit.saturating_sub(b'0'));
+        sum.saturating_mul(10).saturating_add(digit).min(OVER)
+    })
 }
 
 fn is_number_word(word: &[u8]) -> bool
@@ -91,7 +81,7 @@ pub fn price(word: &[u8]) -> Result<u32, Reason>
 }
 
 // A price in stotinki, shown in leva with two decimals.
-#[derive(Clone, Copy)]
+#[derive(Clone, Copy, Debug, PartialEq, Eq)]
 pub struct Leva(pub u32);
 
 impl fmt::Display for Leva {
@@ -99,8 +89,7 @@ impl fmt::Display for Leva {
 
     fn fmt<W: fmt::Write>(&self, f: &mut fmt::Formatter<W>) -> fmt::Result {
         let leva = self.0 / 100;
-        let tenths = self.0 / 10 % 10;
-        let hundredths = self.0 % 10;
-        write!(f, "{leva}.{tenths}{hundredths}")
+        let stotinki = self.0 % 100;
+        write!(f, "{leva}.{stotinki:02}")
     }
 }
