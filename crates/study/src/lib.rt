@@ -7,4 +7,5 @@ pub mod faults;
 pub mod numbers;
 pub mod reading;
 mod statements;
+mod studies;
 mod wording;

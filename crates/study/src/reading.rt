@@ -1,6 +1,6 @@
 // A whole study, read line by line.
 ghost use Rattle.std.specs.Prelude.{◌≡◌, ◌<◌, length, IfSome, IfOk, Ok};
-ghost use Rattle.study.specs.Studies.{Content, Few, lines_of, lines_read, study_of};
+ghost use Rattle.study.specs.Studies.{Content, lines_of, lines_read, study_of};
 ghost use Rattle.study.specs.Sound.{Sound};
 ghost use Rattle.study.specs.Writer.{written_study};
 ghost use Rattle.study.specs.Views.{view, content, cut_line, Agrees};
@@ -8,16 +8,8 @@ ghost use Rattle.study.specs.Views.{view, content, cut_line, Agrees};
 use crate::bytes::find;
 use crate::drafts::Draft;
 use crate::faults::StudyError;
+pub use crate::studies::Study;
 use std::alloc::Global;
-use words::orders::Order;
-
-// A study: its reference price in stotinki, its orders in the order of the text, and the orders that it asks about.
-#[derive(Drop)]
-pub struct Study {
-    pub reference: u32,
-    pub orders: Vec<Order>,
-    pub asks: Vec<Order>,
-}
 
 // The first line, without its line feed, and what follows it.
 fn next_line<'a>(text: &'a [u8]) -> Option<(&'a [u8], &'a [u8])>
@@ -35,7 +27,6 @@ fn next_line<'a>(text: &'a [u8]) -> Option<(&'a [u8], &'a [u8])>
 
 // Takes over every line, and says how many there are.
 fn read_lines(draft: &mut Draft, text: &[u8]) -> Result<usize, StudyError>
-    requires { Few (view draft.old).orders }
     ensures read { Agrees result (λ _. view draft.new) (lines_read 0 (view draft.old) (lines_of text.now)) }
     ensures count { IfOk result (λ n. n ≡ length (lines_of text.now)) }
 {

@@ -9,10 +9,9 @@ loop-line-preserved c =
     let cut = c.in-Some.ensures in
     let after = c.in_ok-take.ensures in
     let inv = c.loop-line.invariant in (
-      read_more c.loop-line.number (view c.loop-line.draft) (view c.take.new.self) (lines_of c.loop-line.rest.now) (lines_of c.in-Some.after.now) c.in-Some.line.now cut.lines after.step ∙ inv.0,
+      read_more c.loop-line.number (view c.loop-line.draft) (view c.take.new.self) (lines_of c.loop-line.rest.now) (lines_of c.in-Some.after.now) c.in-Some.line.now cut.lines after ∙ inv.0,
       count_more c.loop-line.number _ (lines_of c.loop-line.rest.now) (lines_of c.in-Some.after.now) c.in-Some.line.now cut.lines inv.1,
-      after.few,
-      omega (arith, inv.3, cut.shorter),
+      omega (arith, inv.2, cut.shorter),
     )
 
 pub returns : goal.returns

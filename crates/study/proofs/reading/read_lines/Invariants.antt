@@ -1,5 +1,5 @@
 use Rattle.std.proofs.Common.{◌≡◌, ◌+◌, ◌≤◌, length}
-use Rattle.study.specs.Studies.{Few, lines_of, lines_read}
+use Rattle.study.specs.Studies.{lines_of, lines_read}
 use Rattle.study.specs.Views.{view}
 use Rattle.study.proofs.reading.read_lines.Given as goal
 
@@ -8,7 +8,6 @@ abbrev pub invariant-loop-line : goal.invariant-loop-line
 invariant-loop-line l =
     (lines_read l.number (view l.draft) (lines_of l.rest) ≡ lines_read 0 (view l.initial.draft) (lines_of l.text))
     × (l.number + length (lines_of l.rest) ≡ length (lines_of l.text))
-    × Few (view l.draft).orders
     × (l.number + length l.rest ≤ length l.text)
 
 abbrev pub decreases-loop-line : goal.decreases-loop-line

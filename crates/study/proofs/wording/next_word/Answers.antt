@@ -1,4 +1,4 @@
-use Rattle.std.proofs.Common.{◌≡◌, sym, ap, ◌∙◌, rules}
+use Rattle.std.proofs.Common.{sym, ap, ◌∙◌}
 use Rattle.study.specs.Wording.{cut}
 use Rattle.study.proofs.Cutting.{no_word, a_word}
 use Rattle.study.proofs.wording.next_word.Goals as goal
