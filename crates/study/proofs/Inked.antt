@@ -1,8 +1,11 @@
 -- Words and lines of the bytes that a study is written in. Assumes nothing.
-use Rattle.std.proofs.Common.{◌≡◌, ℕ, suc, ◌<◌, Bool, true, false, cond, not, ◌&&◌, eqb, leb, List, [], ◌∷◌, ◌++◌, length, take, drop, Err, Result, refl, ap, ◌∙◌, append_assoc, one-add, arith}
+use Rattle.std.proofs.Common.{◌≡◌, ℕ, ◌<◌, Bool, true, false, cond, not, ◌&&◌, eqb, leb, List, [], ◌∷◌, ◌++◌, length, take, drop, Err, Result, refl, ap, ◌∙◌, append_assoc, arith}
 use Rattle.std.specs.List.{prefix_len, flat_map}
 use Rattle.std.proofs.lemmas.List.{take_at, drop_at, take_all, drop_all}
-use Rattle.std.proofs.lemmas.Bool.{cond-true, cond-false, and_parts, and_from, not-true, eqb-true}
+use Rattle.std.proofs.lemmas.List.Elements.{All-weaker}
+use Rattle.std.proofs.lemmas.List.Folds.{prefix_len-append, list_all-append}
+use Rattle.std.proofs.lemmas.List.Sums.{prefix_len_is, AllPass-from_list_all, list_all-from_AllPass}
+use Rattle.std.proofs.lemmas.Bool.{cond-true, cond-false, and_parts, and_from, not-true}
 use Rattle.std.proofs.lemmas.Bool.Decides.{nat_tests}
 use Rattle.study.specs.declared.faults.Reason.{Reason}
 use Rattle.study.specs.declared.faults.Reason.TheVariants.{NotText}
@@ -11,7 +14,6 @@ use Rattle.study.specs.Bytes.{all, is_word, is_statement, is_line, is_plain, is_
 use Rattle.study.specs.Wording.{closed, words_of}
 use Rattle.study.specs.Statements.{statement_of, line_of}
 use Rattle.study.specs.Studies.{onto, lines_of}
-use Rattle.study.proofs.Runs.{all_run}
 use Rattle.study.proofs.Cutting.{size, grow, closed_some}
 
 -- what words are written in, and what lines are
@@ -22,12 +24,10 @@ abbrev pub clean : ℕ → Bool
 clean b = leb 32 b && (leb b 126 && not (eqb b 35))
 
 pub all_weaker : {X : Type 0} (p q : X → Bool) → ((x : X) → p x ≡ true → q x ≡ true) → (xs : List X) → all p xs ≡ true → all q xs ≡ true
-all_weaker p q h [] a = refl
-all_weaker p q h (x ∷ xs) a = let both = and_parts (p x) (all p xs) a in and_from (q x) _ (h x both.0) (all_weaker p q h xs both.1)
+all_weaker p q h xs a = list_all-from_AllPass q xs (All-weaker (λ x. p x ≡ true) (λ x. q x ≡ true) h xs (AllPass-from_list_all p xs a))
 
 pub all_append : {X : Type 0} (p : X → Bool) (xs ys : List X) → all p xs ≡ true → all p ys ≡ true → all p (xs ++ ys) ≡ true
-all_append p [] ys a b = b
-all_append p (x ∷ xs) ys a b = let both = and_parts (p x) (all p xs) a in and_from (p x) _ both.0 (all_append p xs ys both.1 b)
+all_append p xs ys a b = list_all-append p xs ys ∙ and_from (all p xs) (all p ys) a b
 
 digit_ink : (b : ℕ) → is_digit b ≡ true → ink b ≡ true
 digit_ink b h = grind (arith, nat_tests)
@@ -53,15 +53,16 @@ digits_inked w h = all_weaker is_digit ink digit_ink w h
 pub inked_clean : (w : List ℕ) → all ink w ≡ true → all clean w ≡ true
 inked_clean w h = all_weaker ink clean ink_clean w h
 
--- a run ends before the first that is not of the class
-run_to : (p : ℕ → Bool) (xs : List ℕ) (b : ℕ) (ys : List ℕ) → all p xs ≡ true → p b ≡ false → prefix_len p (xs ++ (b ∷ ys)) ≡ length xs
-run_to p [] b ys a h = cond-false (p b) _ _ h
-run_to p (x ∷ xs) b ys a h =
-    let both = and_parts (p x) (all p xs) a in
-    cond-true (p x) _ _ both.0 ∙ one-add (prefix_len p (xs ++ (b ∷ ys))) ∙ ap suc (run_to p xs b ys both.1 h)
-
+-- a run goes to the end, or to the first that does not pass
 run_all : (p : ℕ → Bool) (xs : List ℕ) → all p xs ≡ true → prefix_len p xs ≡ length xs
-run_all p xs a = eqb-true (prefix_len p xs) (length xs) (all_run p xs ∙ a)
+run_all p xs a = prefix_len_is p xs (length xs) 0 (omega arith) (λ k h. AllPass-from_list_all p xs a k 0 h) (λ h. absurd (omega arith))
+
+run_to : (p : ℕ → Bool) (xs : List ℕ) (b : ℕ) (ys : List ℕ) → all p xs ≡ true → p b ≡ false → prefix_len p (xs ++ (b ∷ ys)) ≡ length xs
+run_to p xs b ys a h =
+    let whole = run_all p xs a in
+    let none : prefix_len p (b ∷ ys) ≡ 0 = cond-false (p b) _ _ h in
+    let more = prefix_len-append p xs (b ∷ ys) in
+    grind (arith, nat_tests)
 
 -- the first word of a line, and the only one
 pub word_first : (w rest : List ℕ) → 0 < length w → all ink w ≡ true → words_of (w ++ (32 ∷ rest)) ≡ w ∷ words_of rest

@@ -1,6 +1,7 @@
 -- Every study that is read is sound: each line keeps what holds of the lines before it. Assumes nothing.
-use Rattle.std.proofs.Common.{◌≡◌, ℕ, zero, suc, ◌+◌, ◌*◌, ◌≤◌, Bool, true, false, cond, ◌&&◌, eqb, ltb, leb, List, [], ◌∷◌, ◌++◌, length, get_or, take, drop, IfOk, Some, Ok, Err, codes, Option, Result, refl, sym, subst, arith}
+use Rattle.std.proofs.Common.{◌≡◌, ℕ, zero, suc, ◌+◌, ◌*◌, ◌≤◌, Bool, true, false, cond, ◌&&◌, eqb, ltb, leb, List, [], ◌∷◌, ◌++◌, length, get_or, take, drop, IfOk, Some, Ok, Err, codes, Option, Result, refl, sym, subst, ◌∙◌, arith}
 use Rattle.std.specs.Str.{bytes_eq}
+use Rattle.std.proofs.lemmas.List.Folds.{list_all-append}
 use Rattle.std.proofs.lemmas.Bool.{ltb-true, leb-true, and_parts, and_from, eq-eqb}
 use Rattle.words.specs.declared.orders.Order.{Order}
 use Rattle.words.specs.declared.sides.Side.{Side}
@@ -115,8 +116,7 @@ line_good : (l : List ℕ) → IfOk (line_of l) FitLine
 line_good l = by_test (is_text l) _ _ FitLine (statement_good (words_of (before_comment l))) tt
 
 all_push : {X : Type 0} (p : X → Bool) (xs : List X) (x : X) → all p xs ≡ true → p x ≡ true → all p (xs ++ (x ∷ [])) ≡ true
-all_push p [] x a h = and_from (p x) true h refl
-all_push p (y ∷ ys) x a h = let both = and_parts (p y) (all p ys) a in and_from (p y) _ both.0 (all_push p ys x both.1 h)
+all_push p xs x a h = list_all-append p xs (x ∷ []) ∙ and_from (all p xs) _ a (and_from (p x) true h refl)
 
 numbers_push : (n : ℕ) (os : List Order) (o : Order) → numbered_from n os ≡ true → o.number ≡ n + length os → numbered_from n (os ++ (o ∷ [])) ≡ true
 numbers_push n [] o a h = and_from (eqb o.number n) true (eq-eqb o.number n (omega (arith, h))) refl
