@@ -1,5 +1,5 @@
 -- A text cut after its first line: the line and the lines of the rest are the lines of the text. Assumes nothing.
-use Rattle.std.proofs.Common.{◌≡◌, ℕ, ◌+◌, ◌-◌, ◌<◌, Some, None, Bool, true, false, cond, not, eqb, List, [], ◌∷◌, length, take, drop, sym, refl, ap, ◌∙◌, one-add, arith}
+use Rattle.std.proofs.Common.{◌≡◌, ℕ, ◌+◌, ◌-◌, ◌<◌, ◌≤◌, Some, None, Bool, true, false, cond, not, eqb, List, [], ◌∷◌, length, take, drop, sym, refl, ap, ◌∙◌, one-add, arith}
 use Rattle.std.specs.List.{prefix_len, position}
 use Rattle.std.proofs.lemmas.List.{take_rest, take_all, drop_all, drop-drop}
 use Rattle.std.proofs.lemmas.Bool.{cond-true, cond-false}
@@ -38,3 +38,16 @@ pub cut_more : (t : List ℕ) (n : ℕ) → 0 < length t → position (λ b. eqb
 cut_more t n some e =
     first_line t some ∙ ap (λ k. take k t ∷ lines_of (drop 1 (drop k t))) (sym (placed (λ b. eqb b 10) t n e))
     ∙ ap (λ v. take n t ∷ lines_of v) (drop-drop 1 n t ∙ sym (take_rest t (n + 1)))
+
+longer_by : (b : ℕ) (ls : List (List ℕ)) → length (onto b ls) ≤ length ls + 1
+longer_by b [] = omega arith
+longer_by b (l ∷ ls) = omega arith
+
+more_lines : (t : Bool) (b : ℕ) (ls : List (List ℕ)) → length (cond t ([] ∷ ls) (onto b ls)) ≤ length ls + 1
+more_lines true b ls = omega arith
+more_lines false b ls = longer_by b ls
+
+-- there are no more lines than bytes
+pub lines_le : (t : List ℕ) → length (lines_of t) ≤ length t
+lines_le [] = omega arith
+lines_le (b ∷ bs) = omega (arith, lines_le bs, more_lines (eqb b 10) b (lines_of bs))

@@ -1,5 +1,6 @@
 // A whole study, read line by line.
-ghost use Rattle.std.specs.Prelude.{◌≡◌, ◌<◌, length, IfSome, IfOk, Ok};
+ghost use Rattle.std.specs.Prelude.{◌≡◌, length, IfOk, Ok};
+ghost use Rattle.std.specs.Iterator.{YieldsFirstRef, item_count};
 ghost use Rattle.study.specs.Studies.{Content, lines_of, lines_read, study_of};
 ghost use Rattle.study.specs.Sound.{Sound};
 ghost use Rattle.study.specs.Writer.{written_study};
@@ -13,8 +14,7 @@ use std::alloc::Global;
 
 // The first line, without its line feed, and what follows it.
 fn next_line<'a>(text: &'a [u8]) -> Option<(&'a [u8], &'a [u8])>
-    ensures lines { lines_of text.now ≡ cut_line result }
-    ensures shorter { IfSome result (λ x. length x.1.now < length text.now) }
+    ensures { lines_of text.now ≡ cut_line result }
 {
     if text.is_empty() {
         return None;
@@ -25,27 +25,48 @@ fn next_line<'a>(text: &'a [u8]) -> Option<(&'a [u8], &'a [u8])>
     }
 }
 
-// Takes over every line, and says how many there are.
-fn read_lines(draft: &mut Draft, text: &[u8]) -> Result<usize, StudyError>
-    ensures read { Agrees result (λ _. view draft.new) (lines_read 0 (view draft.old) (lines_of text.now)) }
-    ensures count { IfOk result (λ n. n ≡ length (lines_of text.now)) }
-{
-    let mut rest = text;
-    let mut number = 0;
-    while let Some((line, after)) = next_line(rest) {
-        number += 1;
-        draft.take(number, line)?;
-        rest = after;
+// The lines of a text, each without its line feed.
+#[derive(Drop)]
+struct Lines<'a> {
+    rest: &'a [u8],
+}
+
+impl<'a> Iterator for Lines<'a> {
+    type Item = &'a [u8];
+
+    ghost next_gives = { YieldsFirstRef (λ s. lines_of s.rest.now) };
+
+    ghost remaining = { item_count (λ s. lines_of s.rest.now) };
+
+    fn next(&mut self) -> Option<&'a [u8]> {
+        let (line, rest) = next_line(self.rest)?;
+        self.rest = rest;
+        Some(line)
     }
-    Ok(number)
+}
+
+// Takes over every line.
+fn read_lines(draft: &mut Draft, text: &[u8]) -> Result<(), StudyError>
+    ensures { Agrees result (λ _. view draft.new) (lines_read 0 (view draft.old) (lines_of text.now)) }
+{
+    for (i, line) in (Lines { rest: text }).enumerate() {
+        draft.take(i + 1, line)?;
+    }
+    Ok(())
+}
+
+fn count_lines(text: &[u8]) -> usize
+    ensures { result ≡ length (lines_of text.now) }
+{
+    Lines { rest: text }.count()
 }
 
 fn read_all(heap: Global, text: &[u8]) -> Result<Study, StudyError>
     ensures { Agrees result content (study_of text.now) }
 {
     let mut draft = Draft::new(heap);
-    let lines = read_lines(&mut draft, text)?;
-    draft.finish(lines)
+    read_lines(&mut draft, text)?;
+    draft.finish(count_lines(text))
 }
 
 // The study that the text writes, or its first fault. What is read is fit for a book, and whatever is fit for a book can be
