@@ -19,6 +19,10 @@ value bs = value_after 0 bs
 abbrev pub is_number : List ℕ → Bool
 is_number bs = nat_lt 0 (length bs) && all is_digit bs
 
+-- quantities and prices are from 1 to 1,000,000
+abbrev pub ranged : ℕ → Reason → Result ℕ Reason
+ranged n e = cond (is_price n) (Ok n) (Err e)
+
 -- a quantity is digits, and from 1 to 1,000,000
 abbrev pub quantity_of : List ℕ → Result ℕ Reason
 quantity_of w = cond (is_number w) (cond (is_quantity (value w)) (Ok (value w)) (Err QuantityRange)) (Err QuantityMalformed)

@@ -1,6 +1,6 @@
 // Quantities and prices, read from their words. A number may have any number of digits: what is too large is refused, never wrapped.
 ghost use Rattle.std.specs.Prelude.{◌≡◌, ℕ, ◌+◌, ◌-◌, ◌*◌, ◌≤◌, min, Some, Ok};
-ghost use Rattle.study.specs.Numbers.{value, is_number, quantity_of, ranged_price, decimal_price, price_of};
+ghost use Rattle.study.specs.Numbers.{value, is_number, quantity_of, ranged, ranged_price, decimal_price, price_of};
 ghost use Rattle.study.specs.Written.{written, written_price};
 
 use crate::bytes::{all_digits, find};
@@ -29,6 +29,17 @@ fn is_number_word(word: &[u8]) -> bool
     !word.is_empty() && all_digits(word)
 }
 
+// The number, from 1 to MOST, or else that reason.
+fn in_range(number: u32, outside: Reason) -> Result<u32, Reason>
+    ensures { result ≡ ranged number outside }
+{
+    if (1..=MOST).contains(&number) {
+        Ok(number)
+    } else {
+        Err(outside)
+    }
+}
+
 // The quantity that the word writes: digits, and from 1 to 1,000,000. Every quantity, written in decimal digits, reads as itself.
 pub fn quantity(word: &[u8]) -> Result<u32, Reason>
     ensures value { result ≡ quantity_of word.now }
@@ -37,20 +48,13 @@ pub fn quantity(word: &[u8]) -> Result<u32, Reason>
     if !is_number_word(word) {
         return Err(Reason::QuantityMalformed);
     }
-    let number = number(word);
-    if number < 1 || number > MOST {
-        return Err(Reason::QuantityRange);
-    }
-    Ok(number)
+    in_range(number(word), Reason::QuantityRange)
 }
 
-fn ranged(stotinki: u32) -> Result<u32, Reason>
+fn price_in_range(stotinki: u32) -> Result<u32, Reason>
     ensures { result ≡ ranged_price stotinki }
 {
-    if stotinki < 1 || stotinki > MOST {
-        return Err(Reason::PriceRange);
-    }
-    Ok(stotinki)
+    in_range(stotinki, Reason::PriceRange)
 }
 
 // The price that leva, a point and decimals write.
@@ -61,8 +65,8 @@ fn with_decimals(leva: &[u8], decimals: &[u8]) -> Result<u32, Reason>
         return Err(Reason::PriceMalformed);
     }
     match decimals.len() {
-        1 => ranged(100 * number(leva) + 10 * number(decimals)),
-        2 => ranged(100 * number(leva) + number(decimals)),
+        1 => price_in_range(100 * number(leva) + 10 * number(decimals)),
+        2 => price_in_range(100 * number(leva) + number(decimals)),
         _ => Err(Reason::PriceDecimals),
     }
 }
@@ -75,7 +79,7 @@ pub fn price(word: &[u8]) -> Result<u32, Reason>
 {
     match find(b'.', word) {
         Some(point) => with_decimals(&word[..point], &word[point + 1..]),
-        None if is_number_word(word) => ranged(100 * number(word)),
+        None if is_number_word(word) => price_in_range(100 * number(word)),
         None => Err(Reason::PriceMalformed),
     }
 }

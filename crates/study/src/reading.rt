@@ -27,20 +27,18 @@ fn next_line<'a>(text: &'a [u8]) -> Option<(&'a [u8], &'a [u8])>
 
 // The lines of a text, each without its line feed.
 #[derive(Drop)]
-struct Lines<'a> {
-    rest: &'a [u8],
-}
+struct Lines<'a>(&'a [u8]);
 
 impl<'a> Iterator for Lines<'a> {
     type Item = &'a [u8];
 
-    ghost next_gives = { YieldsFirstRef (λ s. lines_of s.rest.now) };
+    ghost next_gives = { YieldsFirstRef (λ s. lines_of s.0.now) };
 
-    ghost remaining = { item_count (λ s. lines_of s.rest.now) };
+    ghost remaining = { item_count (λ s. lines_of s.0.now) };
 
     fn next(&mut self) -> Option<&'a [u8]> {
-        let (line, rest) = next_line(self.rest)?;
-        self.rest = rest;
+        let (line, rest) = next_line(self.0)?;
+        self.0 = rest;
         Some(line)
     }
 }
@@ -49,7 +47,7 @@ impl<'a> Iterator for Lines<'a> {
 fn read_lines(draft: &mut Draft, text: &[u8]) -> Result<(), StudyError>
     ensures { Agrees result (λ _. view draft.new) (lines_read 0 (view draft.old) (lines_of text.now)) }
 {
-    for (i, line) in (Lines { rest: text }).enumerate() {
+    for (i, line) in Lines(text).enumerate() {
         draft.take(i + 1, line)?;
     }
     Ok(())
@@ -58,7 +56,7 @@ fn read_lines(draft: &mut Draft, text: &[u8]) -> Result<(), StudyError>
 fn count_lines(text: &[u8]) -> usize
     ensures { result ≡ length (lines_of text.now) }
 {
-    Lines { rest: text }.count()
+    Lines(text).count()
 }
 
 fn read_all(heap: Global, text: &[u8]) -> Result<Study, StudyError>

@@ -10,5 +10,5 @@ loop-i-init-derived c =
     let made = c.enumerate-i-items.ensures in
     let same = c.into_iter-i-iterator.ensures.into_iter_gives in
     let none = ap enumerate_count same ∙ made.count in
-    let all = ap (λ (s : Lines). length (lines_of s.rest.now)) (ap enumerate_source same ∙ made.source) in
+    let all = ap (λ (s : Lines). length (lines_of s.0.now)) (ap enumerate_source same ∙ made.source) in
     ((tt, tt, inl (omega (arith, none, all, lines_le c.args.text.now))), tt)
