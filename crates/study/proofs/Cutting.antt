@@ -1,20 +1,22 @@
 -- A line cut after its first word: the word and the words of the rest are the words of the line. Assumes nothing.
-use Rattle.std.proofs.Common.{◌≡◌, ℕ, ◌+◌, ◌<◌, ◌≤◌, Bool, true, false, cond, not, List, [], ◌∷◌, ◌++◌, length, take, drop, sym, refl, ap, ◌∙◌, append_assoc, append-nil, one-add, arith}
-use Rattle.std.specs.List.{prefix_len}
-use Rattle.std.proofs.lemmas.List.{length-take-le}
+use Rattle.std.proofs.Common.{◌≡◌, ℕ, ◌+◌, ◌-◌, ◌<◌, Some, None, Bool, true, false, cond, not, List, [], ◌∷◌, ◌++◌, length, take, drop, sym, refl, ap, ◌∙◌, append_assoc, append-nil, one-add, arith}
+use Rattle.std.specs.List.{prefix_len, position, position_or_len}
+use Rattle.std.proofs.lemmas.List.{length-take-le, take_rest, drop_all}
+use Rattle.std.proofs.lemmas.List.Sums.{prefix_len-drop_yes, prefix_len-le-length}
+use Rattle.std.proofs.lemmas.List.Quantifiers.{position-Some}
 use Rattle.std.proofs.lemmas.Bool.{cond-true, cond-false}
-use Rattle.study.specs.declared.scanning.Class.TheVariants.{White, Word}
-use Rattle.study.specs.Bytes.{is_white, belongs}
+use Rattle.study.specs.Bytes.{is_white, is_word}
+use Rattle.study.proofs.Places.{placed, missing}
 use Rattle.study.specs.Wording.{closed, words_after, words_of}
 
 abbrev pub gap : List ℕ → ℕ
-gap l = prefix_len (belongs White) l
+gap l = position_or_len is_word l
 
 abbrev pub size : List ℕ → ℕ
-size l = prefix_len (belongs Word) l
+size l = prefix_len is_word l
 
 -- white space at the front is no word
-skip_one : (t : Bool) (b : ℕ) (bs : List ℕ) → is_white b ≡ t → words_of bs ≡ words_of (drop (gap bs) bs) → words_of (b ∷ bs) ≡ words_of (drop (cond t (1 + gap bs) 0) (b ∷ bs))
+skip_one : (t : Bool) (b : ℕ) (bs : List ℕ) → is_white b ≡ t → words_of bs ≡ words_of (drop (gap bs) bs) → words_of (b ∷ bs) ≡ words_of (drop (cond (not (not t)) (1 + gap bs) 0) (b ∷ bs))
 skip_one true b bs e h = cond-true (is_white b) _ _ e ∙ h ∙ ap (λ k. words_of (drop k (b ∷ bs))) (sym (one-add (gap bs)))
 skip_one false b bs e h = refl
 
@@ -36,28 +38,24 @@ pub grow : (w l : List ℕ) → words_after w l ≡ closed (w ++ take (size l) l
 grow w [] = ap (λ v. closed v []) (sym (append-nil w))
 grow w (b ∷ bs) = grow_one (is_white b) w b bs refl (grow (w ++ (b ∷ [])) bs)
 
--- where no word begins after the white space, there is none
-blank_one : (t : Bool) (b : ℕ) (bs : List ℕ) → is_white b ≡ t → (size (drop (gap bs) bs) ≡ 0 → words_of bs ≡ []) → size (drop (cond t (1 + gap bs) 0) (b ∷ bs)) ≡ 0 → words_of (b ∷ bs) ≡ []
-blank_one true b bs e rest h = cond-true (is_white b) _ _ e ∙ rest (ap (λ k. size (drop k (b ∷ bs))) (sym (one-add (gap bs))) ∙ h)
-blank_one false b bs e rest h =
-    let one : 1 + size bs ≡ 0 = sym (ap (λ t. cond (not t) (1 + size bs) 0) e) ∙ h in
-    absurd (omega arith)
-
-blank : (l : List ℕ) → size (drop (gap l) l) ≡ 0 → words_of l ≡ []
-blank [] h = refl
-blank (b ∷ bs) h = blank_one (is_white b) b bs refl (blank bs) h
-
 pub closed_some : (w : List ℕ) (ws : List (List ℕ)) → 0 < length w → closed w ws ≡ w ∷ ws
 closed_some [] ws h = absurd (omega arith)
 closed_some (b ∷ bs) ws h = refl
 
-pub no_word : (l t : List ℕ) (n m : ℕ) → n ≡ gap l → t ≡ drop n l → m ≡ size t → m ≡ 0 → words_of l ≡ []
-no_word l t n m en et em zero = blank l (sym (em ∙ ap size (et ∙ ap (λ k. drop k l) en)) ∙ zero)
+-- where every byte is white, there is no word
+pub no_word : (l : List ℕ) → position is_word l ≡ None → words_of l ≡ []
+no_word l e = skip l ∙ ap words_of (ap (λ k. drop k l) (missing is_word l e) ∙ drop_all (length l) l (omega arith))
 
-pub a_word : (l t w r : List ℕ) (n m : ℕ) → n ≡ gap l → t ≡ drop n l → m ≡ size t → m ≤ length t → (m ≡ 0 → ⊥) → w ≡ take m t → r ≡ drop m t → words_of l ≡ w ∷ words_of r
-a_word l t w r n m en et em le some ew er =
-    let long : length (take m t) ≡ m = length-take-le m t le in
+-- the cut as the code makes it: at the place n of the first word, and m bytes after it
+pub a_word : (l w r : List ℕ) (n m : ℕ) → position is_word l ≡ Some n → m ≡ size (take (length l - n) (drop n l)) → w ≡ take m (take (length l - n) (drop n l)) → r ≡ drop m (take (length l - n) (drop n l)) → words_of l ≡ w ∷ words_of r
+a_word l w r n m e em ew er =
+    let t = drop n l in
+    let rest : take (length l - n) t ≡ t = take_rest l n in
+    let em : m ≡ size t = em ∙ ap size rest in
+    let at = position-Some is_word l n 0 e in
+    let more = prefix_len-drop_yes is_word l n 0 at.0 at.1 in
+    let long : length (take m t) ≡ m = length-take-le m t (omega (arith, prefix_len-le-length is_word t)) in
     let there : 0 < length (take m t) = omega arith in
-    skip l ∙ ap words_of (sym (et ∙ ap (λ k. drop k l) en)) ∙ grow [] t ∙ ap (λ k. closed (take k t) (words_of (drop k t))) (sym em)
+    skip l ∙ ap (λ k. words_of (drop k l)) (sym (placed is_word l n e)) ∙ grow [] t ∙ ap (λ k. closed (take k t) (words_of (drop k t))) (sym em)
     ∙ closed_some (take m t) (words_of (drop m t)) there
-    ∙ ap (λ v. v ∷ words_of (drop m t)) (sym ew) ∙ ap (λ v. w ∷ words_of v) (sym er)
+    ∙ ap (λ v. v ∷ words_of (drop m t)) (sym (ew ∙ ap (take m) rest)) ∙ ap (λ v. w ∷ words_of v) (sym (er ∙ ap (drop m) rest))

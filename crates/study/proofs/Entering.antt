@@ -1,11 +1,10 @@
 -- One order more: its number, and the room on the sides. Assumes nothing.
-use Rattle.std.proofs.Common.{◌≡◌, ℕ, ◌+◌, ◌<◌, ◌≤◌, cond, ltb, List, [], ◌∷◌, ◌++◌, length, Ok, sym, refl, ap, ◌∙◌, arith}
+use Rattle.std.proofs.Common.{◌≡◌, ℕ, ◌+◌, ◌<◌, ◌≤◌, cond, List, [], ◌∷◌, ◌++◌, length, refl, arith}
 use Rattle.std.proofs.lemmas.List.Sums.{sum_by-cons, sum_by_push}
-use Rattle.std.proofs.lemmas.Bool.{cond-true, lt-ltb}
 use Rattle.words.specs.declared.orders.Order.{Order}
 use Rattle.words.specs.declared.sides.Side.{Side}
 use Rattle.words.specs.declared.sides.Side.TheVariants.{Buy, Sell}
-use Rattle.study.specs.Studies.{Reading, same_side, count_on, Few, numbered, enter_step}
+use Rattle.study.specs.Studies.{same_side, count_on, Few}
 
 -- what one order counts on a side
 abbrev one : Side → Order → ℕ
@@ -32,9 +31,3 @@ pub few_more : (os : List Order) (o : Order) → Few os → count_on o.side os <
 few_more os o f h =
     let both = added o.side os f h in
     record { buys = omega (arith, both.0, sum_by_push (one Buy) os o); sells = omega (arith, both.1, sum_by_push (one Sell) os o) }
-
-pub entered : (n : ℕ) (s : Reading) (o : Order) (k : ℕ) (os : List Order) → count_on o.side s.orders < 128 → k ≡ length s.orders + 1 → os ≡ s.orders ++ (numbered o k ∷ [])
-    → enter_step n s o ≡ Ok (record { reference = s.reference; orders = os; asks = s.asks })
-entered n s o k os h ek eo =
-    cond-true (ltb (count_on o.side s.orders) 128) _ _ (lt-ltb _ 128 h)
-    ∙ ap (λ l. Ok (record { reference = s.reference; orders = l; asks = s.asks })) (ap (λ m. s.orders ++ (numbered o m ∷ [])) (sym ek) ∙ sym eo)

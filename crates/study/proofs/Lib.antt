@@ -1,9 +1,7 @@
-pub mod Runs
 pub mod Capped
 pub mod Points
 pub mod Writing
 pub mod Cutting
-pub mod Choosing
 pub mod Entering
 pub mod Lines
 pub mod Stepping
@@ -11,3 +9,4 @@ pub mod Soundness
 pub mod Inked
 pub mod Spelling
 pub mod Retelling
+pub mod Places

@@ -1,15 +1,15 @@
 -- A text cut after its first line: the line and the lines of the rest are the lines of the text. Assumes nothing.
-use Rattle.std.proofs.Common.{◌≡◌, ℕ, ◌+◌, ◌-◌, ◌<◌, Bool, true, false, cond, not, eqb, List, [], ◌∷◌, length, take, drop, sym, refl, ap, ◌∙◌, one-add, arith}
-use Rattle.std.specs.List.{prefix_len}
-use Rattle.std.proofs.lemmas.List.{take_rest, nil_from_length}
+use Rattle.std.proofs.Common.{◌≡◌, ℕ, ◌+◌, ◌-◌, ◌<◌, ◌≤◌, Some, None, Bool, true, false, cond, not, eqb, List, [], ◌∷◌, length, take, drop, sym, refl, ap, ◌∙◌, one-add, arith}
+use Rattle.std.specs.List.{prefix_len, position}
+use Rattle.std.proofs.lemmas.List.{take_rest, take_all, drop_all, drop-drop}
 use Rattle.std.proofs.lemmas.Bool.{cond-true, cond-false}
-use Rattle.study.specs.declared.scanning.Class.TheVariants.{Line}
-use Rattle.study.specs.Bytes.{belongs}
+use Rattle.study.specs.Bytes.{is_line}
+use Rattle.study.proofs.Places.{placed, missing}
 use Rattle.study.specs.Studies.{onto, lines_of}
 
 -- where the first line ends
 abbrev until : List ℕ → ℕ
-until t = prefix_len (belongs Line) t
+until t = prefix_len is_line t
 
 only : (t : Bool) (b : ℕ) → eqb b 10 ≡ t → lines_of (b ∷ []) ≡ take (cond (not t) 1 0) (b ∷ []) ∷ lines_of (drop 1 (drop (cond (not t) 1 0) (b ∷ [])))
 only true b e = cond-true (eqb b 10) _ _ e
@@ -26,17 +26,28 @@ first_line [] h = absurd (omega arith)
 first_line (b ∷ []) h = only (eqb b 10) b refl
 first_line (b ∷ (c ∷ cs)) h = longer (eqb b 10) b (c ∷ cs) refl (first_line (c ∷ cs) (omega arith))
 
--- the cut as the code makes it, at n
-cut_at : (t l r : List ℕ) (n : ℕ) → 0 < length t → n ≡ until t → l ≡ take n t → r ≡ drop n t → lines_of t ≡ l ∷ lines_of (drop 1 r)
-cut_at t l r n some en el er =
-    first_line t some ∙ ap (λ k. take k t ∷ lines_of (drop 1 (drop k t))) (sym en) ∙ ap (λ v. v ∷ lines_of (drop 1 (drop n t))) (sym el) ∙ ap (λ v. l ∷ lines_of (drop 1 v)) (sym er)
+-- where the text has no line feed
+pub cut_last : (t : List ℕ) → 0 < length t → position (λ b. eqb b 10) t ≡ None → lines_of t ≡ t ∷ []
+cut_last t some e =
+    first_line t some ∙ ap (λ k. take k t ∷ lines_of (drop 1 (drop k t))) (missing (λ b. eqb b 10) t e)
+    ∙ ap (λ v. v ∷ lines_of (drop 1 (drop (length t) t))) (take_all (length t) t (omega arith))
+    ∙ ap (λ v. t ∷ lines_of (drop 1 v)) (drop_all (length t) t (omega arith))
 
--- at the end of the text
-pub cut_last : (t l r : List ℕ) (n : ℕ) → 0 < length t → n ≡ until t → l ≡ take n t → r ≡ drop n t → length r ≡ 0 → lines_of t ≡ l ∷ lines_of r
-cut_last t l r n some en el er none =
-    let e = nil_from_length r none in
-    cut_at t l r n some en el er ∙ ap (λ v. l ∷ lines_of (drop 1 v)) e ∙ ap (λ v. l ∷ lines_of v) (sym e)
+-- and where it has one at n
+pub cut_more : (t : List ℕ) (n : ℕ) → 0 < length t → position (λ b. eqb b 10) t ≡ Some n → lines_of t ≡ take n t ∷ lines_of (take (length t - (n + 1)) (drop (n + 1) t))
+cut_more t n some e =
+    first_line t some ∙ ap (λ k. take k t ∷ lines_of (drop 1 (drop k t))) (sym (placed (λ b. eqb b 10) t n e))
+    ∙ ap (λ v. take n t ∷ lines_of v) (drop-drop 1 n t ∙ sym (take_rest t (n + 1)))
 
--- and before more lines
-pub cut_more : (t l r : List ℕ) (n : ℕ) → 0 < length t → n ≡ until t → l ≡ take n t → r ≡ drop n t → lines_of t ≡ l ∷ lines_of (take (length r - 1) (drop 1 r))
-cut_more t l r n some en el er = cut_at t l r n some en el er ∙ ap (λ v. l ∷ lines_of v) (sym (take_rest r 1))
+longer_by : (b : ℕ) (ls : List (List ℕ)) → length (onto b ls) ≤ length ls + 1
+longer_by b [] = omega arith
+longer_by b (l ∷ ls) = omega arith
+
+more_lines : (t : Bool) (b : ℕ) (ls : List (List ℕ)) → length (cond t ([] ∷ ls) (onto b ls)) ≤ length ls + 1
+more_lines true b ls = omega arith
+more_lines false b ls = longer_by b ls
+
+-- there are no more lines than bytes
+pub lines_le : (t : List ℕ) → length (lines_of t) ≤ length t
+lines_le [] = omega arith
+lines_le (b ∷ bs) = omega (arith, lines_le bs, more_lines (eqb b 10) b (lines_of bs))

@@ -9,7 +9,7 @@ use Rattle.words.specs.declared.sides.Side.TheVariants.{Buy, Sell}
 use Rattle.study.specs.declared.faults.Fault.{Fault}
 use Rattle.study.specs.declared.faults.Reason.{Reason}
 use Rattle.study.specs.declared.faults.StudyError.{StudyError}
-use Rattle.study.specs.declared.reading.Study.{Study}
+use Rattle.study.specs.declared.studies.Study.{Study}
 use Rattle.study.specs.declared.statements.Line.{Line}
 use Rattle.study.specs.Bytes.{all}
 use Rattle.study.specs.Statements.{and_then}

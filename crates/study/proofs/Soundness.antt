@@ -1,6 +1,7 @@
 -- Every study that is read is sound: each line keeps what holds of the lines before it. Assumes nothing.
-use Rattle.std.proofs.Common.{◌≡◌, ℕ, zero, suc, ◌+◌, ◌*◌, ◌≤◌, Bool, true, false, cond, ◌&&◌, eqb, ltb, leb, List, [], ◌∷◌, ◌++◌, length, get_or, take, drop, IfOk, Some, None, Ok, Err, codes, Option, Result, refl, subst, arith}
+use Rattle.std.proofs.Common.{◌≡◌, ℕ, zero, suc, ◌+◌, ◌*◌, ◌≤◌, Bool, true, false, cond, ◌&&◌, eqb, ltb, leb, List, [], ◌∷◌, ◌++◌, length, get_or, take, drop, IfOk, Some, Ok, Err, codes, Option, Result, refl, sym, subst, ◌∙◌, arith}
 use Rattle.std.specs.Str.{bytes_eq}
+use Rattle.std.proofs.lemmas.List.Folds.{list_all-append}
 use Rattle.std.proofs.lemmas.Bool.{ltb-true, leb-true, and_parts, and_from, eq-eqb}
 use Rattle.words.specs.declared.orders.Order.{Order}
 use Rattle.words.specs.declared.sides.Side.{Side}
@@ -9,20 +10,16 @@ use Rattle.words.specs.declared.terms.Kind.{Kind}
 use Rattle.words.specs.declared.terms.Kind.TheVariants as kinds
 use Rattle.words.specs.Terms.{is_price, is_quantity}
 use Rattle.words.specs.Orders.{no_order}
-use Rattle.study.specs.declared.faults.StudyError.{StudyError}
-use Rattle.study.specs.declared.faults.StudyError.TheVariants as errors
-use Rattle.study.specs.declared.faults.Reason.{Reason}
 use Rattle.study.specs.declared.faults.Reason.TheVariants.{PriceRange, QuantityRange, SideFull}
-use Rattle.study.specs.declared.reading.Study.{Study}
 use Rattle.study.specs.declared.statements.Line.{Line}
 use Rattle.study.specs.declared.statements.Line.TheVariants.{Blank, Reference, Entry, Ask}
 use Rattle.study.specs.Bytes.{all}
 use Rattle.study.specs.Numbers.{value, is_number, quantity_of, ranged_price, decimal_price, point_at, price_of}
 use Rattle.study.specs.Wording.{words_of, ended, side_of, kind_of}
 use Rattle.study.specs.Statements.{and_then, last_price, terms_with, terms_of, unnumbered, order_from, order_of, statement_of, before_comment, is_text, line_of}
-use Rattle.study.specs.Studies.{Reading, start, count_on, Few, fault, numbered, reference_step, taken, line_step, lines_read, finished, lines_of, study_of}
-use Rattle.study.specs.Views.{content, Agrees}
-use Rattle.study.specs.Sound.{fit_terms, fit_order, is_unnumbered, numbered_from, Sound}
+use Rattle.study.specs.Studies.{count_on, numbered, next_order}
+use Rattle.study.specs.Sound.{fit_terms, fit_order, is_unnumbered, numbered_from, Sound, SoundSoFar}
+use Rattle.std.proofs.lemmas.Option.{same_Some}
 use Rattle.study.proofs.Entering.{few_more}
 
 -- what holds of what is made, where it is chosen by a test or read in two steps
@@ -38,18 +35,22 @@ by_steps : {A B E : Type 0} (r : Result A E) (f : A → Result B E) (P : A → T
 by_steps (Ok x) f P Q p q = q x p
 by_steps (Err e) f P Q p q = tt
 
+cond_ok : {A E : Type 0} (b : Bool) (x y : A) (e : E) → cond b (Ok x) (Err e) ≡ Ok y → (b ≡ true) × (x ≡ y)
+cond_ok true x y e h = (refl, cc)
+cond_ok false x y e h = absurd (cc)
+
 by_any : {A B E : Type 0} (r : Result A E) (f : A → Result B E) (Q : B → Type 0) → ((x : A) → IfOk (f x) Q) → IfOk (and_then r f) Q
 by_any (Ok x) f Q q = q x
 by_any (Err e) f Q q = tt
 
-abbrev Price : ℕ → Type 0
+abbrev pub Price : ℕ → Type 0
 Price p = is_price p ≡ true
 
 abbrev Quantity : ℕ → Type 0
 Quantity q = is_quantity q ≡ true
 
 -- an order as it is read, before it is numbered
-abbrev Fit : Order → Type 0
+abbrev pub Fit : Order → Type 0
 Fit o = (fit_order o ≡ true) × (is_unnumbered o ≡ true)
 
 ranged_good : (p : ℕ) → IfOk (ranged_price p) Price
@@ -96,7 +97,7 @@ order_good [] = tt
 order_good (w ∷ ws) = by_any (side_of w) _ Fit (λ s. from_good s ws)
 
 -- what a line may say
-abbrev FitLine : Line → Type 0
+abbrev pub FitLine : Line → Type 0
 FitLine Blank = Unit {0}
 FitLine (Reference p) = Price p
 FitLine (Entry o) = Fit o
@@ -115,8 +116,7 @@ line_good : (l : List ℕ) → IfOk (line_of l) FitLine
 line_good l = by_test (is_text l) _ _ FitLine (statement_good (words_of (before_comment l))) tt
 
 all_push : {X : Type 0} (p : X → Bool) (xs : List X) (x : X) → all p xs ≡ true → p x ≡ true → all p (xs ++ (x ∷ [])) ≡ true
-all_push p [] x a h = and_from (p x) true h refl
-all_push p (y ∷ ys) x a h = let both = and_parts (p y) (all p ys) a in and_from (p y) _ both.0 (all_push p ys x both.1 h)
+all_push p xs x a h = list_all-append p xs (x ∷ []) ∙ and_from (all p xs) _ a (and_from (p x) true h refl)
 
 numbers_push : (n : ℕ) (os : List Order) (o : Order) → numbered_from n os ≡ true → o.number ≡ n + length os → numbered_from n (os ++ (o ∷ [])) ≡ true
 numbers_push n [] o a h = and_from (eqb o.number n) true (eq-eqb o.number n (omega (arith, h))) refl
@@ -132,53 +132,44 @@ small_at (o ∷ os) a zero =
     leb-true o.quantity 1000000 (and_parts (leb 1 o.quantity) (leb o.quantity 1000000) fit).1
 small_at (o ∷ os) a (suc k) = small_at os (and_parts (fit_order o) (all fit_order os) a).1 k
 
-abbrev FitReference : Option ℕ → Type 0
-FitReference (Some p) = Price p
-FitReference None = Unit {0}
+pub refer_kept : (o : Option ℕ) (os qs : List Order) (p : ℕ) → Price p → SoundSoFar (record { reference = o; orders = os; asks = qs }) → SoundSoFar (record { reference = Some p; orders = os; asks = qs })
+refer_kept o os qs p h k = record {
+  reference_fit = λ q e. subst Price (same_Some p q e) h;
+  orders_fit = k.orders_fit;
+  asks_fit = k.asks_fit;
+  few = k.few;
+  numbers = k.numbers;
+  asks_unnumbered = k.asks_unnumbered;
+}
 
--- what holds of the lines so far
-record Kept (s : Reading) : Type 0 where
-  reference_fit : FitReference s.reference
-  orders_fit : all fit_order s.orders ≡ true
-  asks_fit : all fit_order s.asks ≡ true
-  few : Few s.orders
-  numbers : numbered_from 1 s.orders ≡ true
-  asks_unnumbered : all is_unnumbered s.asks ≡ true
-
-start_kept : Kept start
-start_kept = record { reference_fit = tt; orders_fit = refl; asks_fit = refl; few = record { buys = omega arith; sells = omega arith }; numbers = refl; asks_unnumbered = refl }
-
-refer_kept : (n : ℕ) (o : Option ℕ) (os qs : List Order) (p : ℕ) → Price p → Kept (record { reference = o; orders = os; asks = qs }) → IfOk (reference_step n (record { reference = o; orders = os; asks = qs }) p) Kept
-refer_kept n (Some q) os qs p h k = tt
-refer_kept n None os qs p h k = record { reference_fit = h; orders_fit = k.orders_fit; asks_fit = k.asks_fit; few = k.few; numbers = k.numbers; asks_unnumbered = k.asks_unnumbered }
-
-taken_kept : (n : ℕ) (s : Reading) (x : Line) → FitLine x → Kept s → IfOk (taken n s x) Kept
-taken_kept n s Blank h k = k
-taken_kept n s (Reference p) h k = refer_kept n s.reference s.orders s.asks p h k
-taken_kept n s (Entry o) h k =
-    by_true (ltb (count_on o.side s.orders) 128) _ (fault n SideFull) Kept
-    (λ room. record {
+pub enter_kept : (r : Option ℕ) (os qs : List Order) (o p : Order) → Fit o → next_order (record { reference = r; orders = os; asks = qs }) o ≡ Ok p → SoundSoFar (record { reference = r; orders = os; asks = qs })
+    → SoundSoFar (record { reference = r; orders = os ++ (p ∷ []); asks = qs })
+enter_kept r os qs o p h e k =
+    let next = numbered o (length os + 1) in
+    let chosen = cond_ok (ltb (count_on o.side os) 128) next p SideFull e in
+    subst (λ x. SoundSoFar (record { reference = r; orders = os ++ (x ∷ []); asks = qs })) chosen.1
+    (record {
       reference_fit = k.reference_fit;
-      orders_fit = all_push fit_order s.orders (numbered o (length s.orders + 1)) k.orders_fit h.0;
+      orders_fit = all_push fit_order os next k.orders_fit h.0;
       asks_fit = k.asks_fit;
-      few = few_more s.orders (numbered o (length s.orders + 1)) k.few (ltb-true _ 128 room);
-      numbers = numbers_push 1 s.orders (numbered o (length s.orders + 1)) k.numbers (omega arith);
+      few = few_more os next k.few (ltb-true _ 128 chosen.0);
+      numbers = numbers_push 1 os next k.numbers (omega arith);
       asks_unnumbered = k.asks_unnumbered;
     })
-taken_kept n s (Ask o) h k =
-    record { reference_fit = k.reference_fit; orders_fit = k.orders_fit; asks_fit = all_push fit_order s.asks o k.asks_fit h.0; few = k.few; numbers = k.numbers; asks_unnumbered = all_push is_unnumbered s.asks o k.asks_unnumbered h.1 }
 
-step_kept : (n : ℕ) (s : Reading) (r : Result Line Reason) → IfOk r FitLine → Kept s → IfOk (elim r [ Ok x ↦ taken n s x | Err e ↦ Err (fault n e) ]) Kept
-step_kept n s (Ok x) h k = taken_kept n s x h k
-step_kept n s (Err e) h k = tt
+pub ask_kept : (r : Option ℕ) (os qs : List Order) (o : Order) → Fit o → SoundSoFar (record { reference = r; orders = os; asks = qs }) → SoundSoFar (record { reference = r; orders = os; asks = qs ++ (o ∷ []) })
+ask_kept r os qs o h k = record {
+  reference_fit = k.reference_fit;
+  orders_fit = k.orders_fit;
+  asks_fit = all_push fit_order qs o k.asks_fit h.0;
+  few = k.few;
+  numbers = k.numbers;
+  asks_unnumbered = all_push is_unnumbered qs o k.asks_unnumbered h.1;
+}
 
-lines_kept : (n : ℕ) (s : Reading) (ls : List (List ℕ)) → Kept s → IfOk (lines_read n s ls) Kept
-lines_kept n s [] k = k
-lines_kept n s (l ∷ ls) k = by_steps (line_step (n + 1) s l) _ Kept Kept (step_kept (n + 1) s (line_of l) (line_good l) k) (λ t h. lines_kept (n + 1) t ls h)
-
-sound_from : (p : ℕ) (os qs : List Order) → Kept (record { reference = Some p; orders = os; asks = qs }) → Sound (record { reference = p; orders = os; asks = qs })
-sound_from p os qs k =
-    let both = and_parts (leb 1 p) (leb p 1000000) k.reference_fit in
+pub finish_kept : (p : ℕ) (os qs : List Order) → SoundSoFar (record { reference = Some p; orders = os; asks = qs }) → Sound (record { reference = p; orders = os; asks = qs })
+finish_kept p os qs k =
+    let both = and_parts (leb 1 p) (leb p 1000000) (k.reference_fit p refl) in
     record {
       low = leb-true 1 p both.0;
       high = leb-true p 1000000 both.1;
@@ -191,16 +182,11 @@ sound_from p os qs k =
       asks_small = small_at qs k.asks_fit;
     }
 
-finished_sound : (n : ℕ) (o : Option ℕ) (os qs : List Order) → Kept (record { reference = o; orders = os; asks = qs }) → IfOk (finished n (record { reference = o; orders = os; asks = qs })) Sound
-finished_sound n (Some p) os qs k = sound_from p os qs k
-finished_sound n None os qs k = by_test (eqb (length os) 0 && eqb (length qs) 0) _ _ Sound tt tt
+-- what a line says is fit for a book
+pub line_says : (l : List ℕ) (x : Line) → line_of l ≡ Ok x → FitLine x
+line_says l x e = subst (λ r. IfOk r FitLine) e (line_good l)
 
-pub study_sound : (t : List ℕ) → IfOk (study_of t) Sound
-study_sound t =
-    by_steps (lines_read 0 start (lines_of t)) _ Kept Sound (lines_kept 0 start (lines_of t) start_kept)
-    (λ s k. finished_sound (length (lines_of t)) s.reference s.orders s.asks k)
-
-pub answer_sound : (r : Result Study StudyError) (t : List ℕ) → Agrees r content (study_of t) → IfOk r (λ s. Sound (content s))
-answer_sound (Ok s) t e = subst (λ a. IfOk a Sound) e (study_sound t)
-answer_sound (Err (errors.Fault f)) t e = tt
-answer_sound (Err errors.NoMemory) t e = tt
+-- after a push that may have failed
+pub pushed : (b : Bool) (new more old : List Order) (P : List Order → Type 0) → new ≡ cond b more old → P more → P old → P new
+pushed true new more old P e p q = subst P (sym e) p
+pushed false new more old P e p q = subst P (sym e) q

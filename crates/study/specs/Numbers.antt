@@ -2,10 +2,9 @@
 use Rattle.std.specs.Prelude.{ℕ, ◌+◌, ◌-◌, ◌*◌, Bool, cond, ◌&&◌, List, [], ◌∷◌, length, take, drop, Ok, Err, Result, ◌==◌, nat_lt}
 use Rattle.std.specs.List.{prefix_len}
 use Rattle.words.specs.Terms.{is_price, is_quantity}
-use Rattle.study.specs.declared.scanning.Class.TheVariants.{Digit, Whole}
 use Rattle.study.specs.declared.faults.Reason.{Reason}
 use Rattle.study.specs.declared.faults.Reason.TheVariants.{PriceMalformed, PriceDecimals, PriceRange, QuantityMalformed, QuantityRange}
-use Rattle.study.specs.Bytes.{belongs, all}
+use Rattle.study.specs.Bytes.{all, is_digit, is_whole}
 
 -- the number that decimal digits write after the number n: each digit makes it tenfold and adds itself
 abbrev pub value_after : ℕ → List ℕ → ℕ
@@ -18,7 +17,11 @@ value bs = value_after 0 bs
 
 -- one or more decimal digits
 abbrev pub is_number : List ℕ → Bool
-is_number bs = nat_lt 0 (length bs) && all (belongs Digit) bs
+is_number bs = nat_lt 0 (length bs) && all is_digit bs
+
+-- quantities and prices are from 1 to 1,000,000
+abbrev pub ranged : ℕ → Reason → Result ℕ Reason
+ranged n e = cond (is_price n) (Ok n) (Err e)
 
 -- a quantity is digits, and from 1 to 1,000,000
 abbrev pub quantity_of : List ℕ → Result ℕ Reason
@@ -40,7 +43,7 @@ decimal_price leva ds = cond (is_number leva && is_number ds) (in_stotinki (valu
 
 -- how many bytes stand before the first point
 abbrev pub point_at : List ℕ → ℕ
-point_at w = prefix_len (belongs Whole) w
+point_at w = prefix_len is_whole w
 
 -- a price is leva, with or without a point and decimals
 abbrev pub price_of : List ℕ → Result ℕ Reason

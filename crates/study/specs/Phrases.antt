@@ -1,6 +1,9 @@
 -- The phrases that faults are shown by. Assumes nothing.
-use Rattle.std.specs.Prelude.{ℕ, List, codes}
+use Rattle.std.specs.Prelude.{ℕ, List, ◌++◌, codes, decimal, max}
+use Rattle.study.specs.declared.faults.Fault.{Fault}
 use Rattle.study.specs.declared.faults.Reason.{Reason}
+use Rattle.study.specs.declared.faults.StudyError.{StudyError}
+use Rattle.study.specs.declared.faults.StudyError.TheVariants as errors
 use Rattle.study.specs.declared.faults.Reason.TheVariants.{NotText, UnknownWord, MissingWord, WordsAfter, PriceMalformed, PriceDecimals, PriceRange, QuantityMalformed, QuantityRange, SideFull, ReferenceTwice, ReferenceMissing, NothingThere}
 
 abbrev pub phrase : Reason → List ℕ
@@ -17,3 +20,11 @@ phrase SideFull = codes "a side has at most 128 orders"
 phrase ReferenceTwice = codes "the reference is given twice"
 phrase ReferenceMissing = codes "the study has no reference"
 phrase NothingThere = codes "the study has no statement"
+
+-- the line and the phrase; the last line of an empty text is shown as line 1
+abbrev pub fault_text : Fault → List ℕ
+fault_text x = codes "line " ++ (decimal (max x.line 1) ++ (codes ": " ++ phrase x.reason))
+
+abbrev pub error_text : StudyError → List ℕ
+error_text (errors.Fault x) = fault_text x
+error_text errors.NoMemory = codes "there is not enough memory"

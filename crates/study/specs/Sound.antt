@@ -1,5 +1,6 @@
 -- What holds of every study that is read. Assumes nothing.
 use Rattle.std.specs.Prelude.{◌≡◌, ℕ, ◌+◌, ◌≤◌, Bool, true, false, ◌&&◌, List, [], ◌∷◌, ◌==◌, slice_index_or}
+use Rattle.std.specs.Option.{ForSome}
 use Rattle.words.specs.declared.orders.Order.{Order}
 use Rattle.words.specs.declared.terms.Terms.{Terms}
 use Rattle.words.specs.declared.terms.Terms.TheVariants.{Limit, Market, MarketToLimit}
@@ -8,7 +9,7 @@ use Rattle.words.specs.declared.terms.Condition.TheVariants.{Unconditional, Imme
 use Rattle.words.specs.Terms.{is_price, is_quantity}
 use Rattle.words.specs.Orders.{no_order}
 use Rattle.study.specs.Bytes.{all}
-use Rattle.study.specs.Studies.{Content, Few}
+use Rattle.study.specs.Studies.{Reading, Content, Few}
 
 -- a limit is a price
 abbrev pub fit_terms : Terms → Bool
@@ -50,3 +51,12 @@ pub record Sound (s : Content) : Type 0 where
   -- the quantities once more, by place
   pub orders_small : (k : ℕ) → (slice_index_or s.orders k no_order).quantity ≤ 1000000
   pub asks_small : (k : ℕ) → (slice_index_or s.asks k no_order).quantity ≤ 1000000
+
+-- what holds of what the lines so far have said
+pub record SoundSoFar (s : Reading) : Type 0 where
+  pub reference_fit : ForSome s.reference (λ p. is_price p ≡ true)
+  pub orders_fit : all fit_order s.orders ≡ true
+  pub asks_fit : all fit_order s.asks ≡ true
+  pub few : Few s.orders
+  pub numbers : numbered_from 1 s.orders ≡ true
+  pub asks_unnumbered : all is_unnumbered s.asks ≡ true

@@ -11,10 +11,9 @@ use Rattle.words.specs.declared.terms.Terms.TheVariants.{Limit, Market, MarketTo
 use Rattle.words.specs.declared.terms.Condition.TheVariants.{Unconditional}
 use Rattle.study.specs.declared.faults.Reason.{Reason}
 use Rattle.study.specs.declared.faults.Reason.TheVariants.{NotText, MissingWord}
-use Rattle.study.specs.declared.scanning.Class.TheVariants.{Statement, Plain, Comment}
 use Rattle.study.specs.declared.statements.Line.{Line}
 use Rattle.study.specs.declared.statements.Line.TheVariants.{Blank, Reference, Entry, Ask}
-use Rattle.study.specs.Bytes.{belongs, all}
+use Rattle.study.specs.Bytes.{all, is_statement, is_plain, is_comment}
 use Rattle.study.specs.Numbers.{quantity_of, price_of}
 use Rattle.study.specs.Wording.{words_of, ended, side_of, kind_of}
 
@@ -63,14 +62,14 @@ statement_of (w ∷ ws) =
 
 -- a line up to its comment, and the comment with its `#`
 abbrev pub before_comment : List ℕ → List ℕ
-before_comment l = take (prefix_len (belongs Statement) l) l
+before_comment l = take (prefix_len is_statement l) l
 
 abbrev pub comment_of : List ℕ → List ℕ
-comment_of l = drop (prefix_len (belongs Statement) l) l
+comment_of l = drop (prefix_len is_statement l) l
 
 -- a line is text, and bytes of 128 and more stand in its comment only
 abbrev pub is_text : List ℕ → Bool
-is_text l = all (belongs Plain) (before_comment l) && all (belongs Comment) (comment_of l)
+is_text l = all is_plain (before_comment l) && all is_comment (comment_of l)
 
 -- what a line says
 abbrev pub line_of : List ℕ → Result Line Reason

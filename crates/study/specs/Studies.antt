@@ -51,6 +51,10 @@ numbered o n = record { number = n; side = o.side; terms = o.terms; condition = 
 abbrev pub reference_step : ℕ → Reading → ℕ → Result Reading Fault
 reference_step n s p = elim s.reference [ Some q ↦ Err (fault n ReferenceTwice) | None ↦ Ok (record { reference = Some p; orders = s.orders; asks = s.asks }) ]
 
+-- an order with the next number over both sides, if its side has room
+abbrev pub next_order : Reading → Order → Result Order Reason
+next_order s o = cond (nat_lt (count_on o.side s.orders) 128) (Ok (numbered o (length s.orders + 1))) (Err SideFull)
+
 -- an order has the next number over both sides, if its side has room
 abbrev pub enter_step : ℕ → Reading → Order → Result Reading Fault
 enter_step n s o =

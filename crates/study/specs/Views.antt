@@ -2,7 +2,7 @@
 use Rattle.std.specs.Prelude.{◌≡◌, ℕ, List, [], ◌∷◌, Some, None, Ok, Err, vec_items, Option, Result}
 use Rattle.std.specs.Borrow.{Bor}
 use Rattle.study.specs.declared.drafts.Draft.{Draft}
-use Rattle.study.specs.declared.reading.Study.{Study}
+use Rattle.study.specs.declared.studies.Study.{Study}
 use Rattle.study.specs.declared.faults.Fault.{Fault}
 use Rattle.study.specs.declared.faults.StudyError.{StudyError}
 use Rattle.study.specs.declared.faults.StudyError.TheVariants as errors

@@ -1,12 +1,13 @@
 // What can be wrong in a study, and where.
 ghost use Rattle.std.specs.Prelude.{◌≡◌, Some};
-ghost use Rattle.study.specs.Phrases.{phrase};
-ghost use Rattle.study.specs.declared.faults.StudyError.TheVariants.{NoMemory};
+ghost use Rattle.study.specs.Phrases.{phrase, fault_text, error_text};
+ghost use Rattle.study.specs.declared.faults.StudyError.TheVariants as errors;
 
 use std::alloc::{AllocError, AllocFailed};
+use std::error::Error;
 use std::fmt;
 
-#[derive(Clone, Copy)]
+#[derive(Clone, Copy, Debug, PartialEq, Eq)]
 pub enum Reason {
     // a byte that is no text, or one above 127 outside a comment
     NotText,
@@ -36,12 +37,11 @@ pub enum Reason {
     NothingThere,
 }
 
-impl Reason {
-    // What is wrong, as a phrase for a person to read.
-    fn text(self) -> &'static str
-        ensures { result.now ≡ phrase self }
-    {
-        match self {
+impl fmt::Display for Reason {
+    ghost output = { λ x. Some (phrase x) };
+
+    fn fmt<W: fmt::Write>(&self, f: &mut fmt::Formatter<W>) -> fmt::Result {
+        f.write_str(match self {
             Reason::NotText => "a byte that is not text",
             Reason::UnknownWord => "a word that is not known here",
             Reason::MissingWord => "the statement ends too early",
@@ -55,46 +55,71 @@ impl Reason {
             Reason::ReferenceTwice => "the reference is given twice",
             Reason::ReferenceMissing => "the study has no reference",
             Reason::NothingThere => "the study has no statement",
-        }
+        })
     }
 }
 
-impl fmt::Display for Reason {
-    ghost output = { λ x. Some (phrase x) };
-
-    fn fmt<W: fmt::Write>(&self, f: &mut fmt::Formatter<W>) -> fmt::Result {
-        let text = self.text();
-        write!(f, "{text}")
-    }
-}
+impl Error for Reason {}
 
 // The first fault of a study: the number of its line, from 1, and what is wrong there. Where the fault is of the whole text, as
 // a reference that is missing, it stands at the last line, which of an empty text is 0.
-#[derive(Clone, Copy)]
+#[derive(Clone, Copy, Debug, PartialEq, Eq)]
 pub struct Fault {
     pub line: usize,
     pub reason: Reason,
 }
 
+// Shown with line 1 for the last line of an empty text.
+impl fmt::Display for Fault {
+    ghost output = { λ x. Some (fault_text x) };
+
+    fn fmt<W: fmt::Write>(&self, f: &mut fmt::Formatter<W>) -> fmt::Result {
+        let line = self.line.max(1);
+        let reason = self.reason;
+        write!(f, "line {line}: {reason}")
+    }
+}
+
 // Why no study was read. Want of memory may come at any line.
-#[derive(Clone, Copy)]
+#[derive(Clone, Copy, Debug, PartialEq, Eq)]
 pub enum StudyError {
     Fault(Fault),
     NoMemory,
 }
 
-impl From<AllocError> for StudyError {
-    ghost from_gives = { λ _ r. r ≡ NoMemory };
+impl fmt::Display for StudyError {
+    ghost output = { λ x. Some (error_text x) };
 
-    fn from(_e: AllocError) -> StudyError {
-        StudyError::NoMemory
+    fn fmt<W: fmt::Write>(&self, f: &mut fmt::Formatter<W>) -> fmt::Result {
+        match self {
+            StudyError::Fault(fault) => write!(f, "{fault}"),
+            StudyError::NoMemory => f.write_str("there is not enough memory"),
+        }
+    }
+}
+
+impl Error for StudyError {}
+
+impl From<Fault> for StudyError {
+    ghost from_gives = { λ fault r. r ≡ errors.Fault fault };
+
+    fn from(fault: Fault) -> Self {
+        Self::Fault(fault)
+    }
+}
+
+impl From<AllocError> for StudyError {
+    ghost from_gives = { λ _ r. r ≡ errors.NoMemory };
+
+    fn from(_e: AllocError) -> Self {
+        Self::NoMemory
     }
 }
 
 impl<T: Drop> From<AllocFailed<T>> for StudyError {
-    ghost from_gives = { λ _ r. r ≡ NoMemory };
+    ghost from_gives = { λ _ r. r ≡ errors.NoMemory };
 
-    fn from(_e: AllocFailed<T>) -> StudyError {
-        <StudyError as From<AllocError>>::from(AllocError)
+    fn from(_e: AllocFailed<T>) -> Self {
+        AllocError.into()
     }
 }

@@ -1,10 +1,10 @@
 // Quantities and prices, read from their words. A number may have any number of digits: what is too large is refused, never wrapped.
 ghost use Rattle.std.specs.Prelude.{◌≡◌, ℕ, ◌+◌, ◌-◌, ◌*◌, ◌≤◌, min, Some, Ok};
-ghost use Rattle.study.specs.Numbers.{value, is_number, quantity_of, ranged_price, decimal_price, price_of};
+ghost use Rattle.study.specs.Numbers.{value, is_number, quantity_of, ranged, ranged_price, decimal_price, price_of};
 ghost use Rattle.study.specs.Written.{written, written_price};
 
+use crate::bytes::{all_digits, find};
 use crate::faults::Reason;
-use crate::scanning::{Class, every, run};
 use std::fmt;
 
 // The largest quantity, and the largest price in stotinki.
@@ -13,30 +13,31 @@ const MOST: u32 = 1_000_000;
 // One past the largest: every number from here on is as much too large as this one.
 const OVER: u32 = 1_000_001;
 
-// The number that has one digit more.
-fn grown(number: u32, digit: u8) -> u32
-    requires { number ≤ 1000001 }
-    ensures { result ≡ min (number * 10 + (digit - 48)) 1000001 }
-{
-    let next = number * 10 + u32::from(digit.saturating_sub(b'0'));
-    if next < OVER { next } else { OVER }
-}
-
 // The number that the digits write, or OVER where that is less.
 fn number(digits: &[u8]) -> u32
     ensures { result ≡ min (value digits.now) 1000001 }
 {
-    let mut sum = 0;
-    for digit in digits {
-        sum = grown(sum, *digit);
-    }
-    sum
+    digits.iter().fold(0u32, |sum, &digit| {
+        let digit = u32::from(digit.saturating_sub(b'0'));
+        sum.saturating_mul(10).saturating_add(digit).min(OVER)
+    })
 }
 
 fn is_number_word(word: &[u8]) -> bool
     ensures { result ≡ is_number word.now }
 {
-    !word.is_empty() && every(Class::Digit, word)
+    !word.is_empty() && all_digits(word)
+}
+
+// The number, from 1 to MOST, or else that reason.
+fn in_range(number: u32, outside: Reason) -> Result<u32, Reason>
+    ensures { result ≡ ranged number outside }
+{
+    if (1..=MOST).contains(&number) {
+        Ok(number)
+    } else {
+        Err(outside)
+    }
 }
 
 // The quantity that the word writes: digits, and from 1 to 1,000,000. Every quantity, written in decimal digits, reads as itself.
@@ -47,20 +48,13 @@ pub fn quantity(word: &[u8]) -> Result<u32, Reason>
     if !is_number_word(word) {
         return Err(Reason::QuantityMalformed);
     }
-    let number = number(word);
-    if number < 1 || number > MOST {
-        return Err(Reason::QuantityRange);
-    }
-    Ok(number)
+    in_range(number(word), Reason::QuantityRange)
 }
 
-fn ranged(stotinki: u32) -> Result<u32, Reason>
+fn price_in_range(stotinki: u32) -> Result<u32, Reason>
     ensures { result ≡ ranged_price stotinki }
 {
-    if stotinki < 1 || stotinki > MOST {
-        return Err(Reason::PriceRange);
-    }
-    Ok(stotinki)
+    in_range(stotinki, Reason::PriceRange)
 }
 
 // The price that leva, a point and decimals write.
@@ -71,8 +65,8 @@ fn with_decimals(leva: &[u8], decimals: &[u8]) -> Result<u32, Reason>
         return Err(Reason::PriceMalformed);
     }
     match decimals.len() {
-        1 => ranged(100 * number(leva) + 10 * number(decimals)),
-        2 => ranged(100 * number(leva) + number(decimals)),
+        1 => price_in_range(100 * number(leva) + 10 * number(decimals)),
+        2 => price_in_range(100 * number(leva) + number(decimals)),
         _ => Err(Reason::PriceDecimals),
     }
 }
@@ -83,18 +77,15 @@ pub fn price(word: &[u8]) -> Result<u32, Reason>
     ensures value { result ≡ price_of word.now }
     ensures written { (p : ℕ) → 1 ≤ p → p ≤ 1000000 → word.now ≡ written_price p → result ≡ Ok p }
 {
-    let point = run(Class::Whole, word);
-    if point < word.len() {
-        return with_decimals(&word[0..point], &word[point + 1..]);
+    match find(b'.', word) {
+        Some(point) => with_decimals(&word[..point], &word[point + 1..]),
+        None if is_number_word(word) => price_in_range(100 * number(word)),
+        None => Err(Reason::PriceMalformed),
     }
-    if !is_number_word(word) {
-        return Err(Reason::PriceMalformed);
-    }
-    ranged(100 * number(word))
 }
 
 // A price in stotinki, shown in leva with two decimals.
-#[derive(Clone, Copy)]
+#[derive(Clone, Copy, Debug, PartialEq, Eq)]
 pub struct Leva(pub u32);
 
 impl fmt::Display for Leva {
@@ -102,8 +93,7 @@ impl fmt::Display for Leva {
 
     fn fmt<W: fmt::Write>(&self, f: &mut fmt::Formatter<W>) -> fmt::Result {
         let leva = self.0 / 100;
-        let tenths = self.0 / 10 % 10;
-        let hundredths = self.0 % 10;
-        write!(f, "{leva}.{tenths}{hundredths}")
+        let stotinki = self.0 % 100;
+        write!(f, "{leva}.{stotinki:02}")
     }
 }

@@ -1,61 +1,70 @@
 // A whole study, read line by line.
-ghost use Rattle.std.specs.Prelude.{◌≡◌, ◌<◌, length, IfSome, IfOk, Ok};
-ghost use Rattle.study.specs.Studies.{Content, Few, lines_of, lines_read, study_of};
+ghost use Rattle.std.specs.Prelude.{◌≡◌, length, IfOk, Ok};
+ghost use Rattle.std.specs.Iterator.{YieldsFirstRef, item_count};
+ghost use Rattle.study.specs.Studies.{Content, lines_of, lines_read, study_of};
 ghost use Rattle.study.specs.Sound.{Sound};
 ghost use Rattle.study.specs.Writer.{written_study};
 ghost use Rattle.study.specs.Views.{view, content, cut_line, Agrees};
 
+use crate::bytes::find;
 use crate::drafts::Draft;
 use crate::faults::StudyError;
-use crate::scanning::{Class, run};
+pub use crate::studies::Study;
 use std::alloc::Global;
-use words::orders::Order;
-
-// A study: its reference price in stotinki, its orders in the order of the text, and the orders that it asks about.
-#[derive(Drop)]
-pub struct Study {
-    pub reference: u32,
-    pub orders: Vec<Order>,
-    pub asks: Vec<Order>,
-}
 
 // The first line, without its line feed, and what follows it.
 fn next_line<'a>(text: &'a [u8]) -> Option<(&'a [u8], &'a [u8])>
-    ensures lines { lines_of text.now ≡ cut_line result }
-    ensures shorter { IfSome result (λ x. length x.1.now < length text.now) }
+    ensures { lines_of text.now ≡ cut_line result }
 {
     if text.is_empty() {
         return None;
     }
-    let (line, rest) = text.split_at(run(Class::Line, text));
-    if rest.is_empty() {
-        return Some((line, rest));
+    match find(b'\n', text) {
+        Some(end) => Some((&text[..end], &text[end + 1..])),
+        None => Some((text, &[])),
     }
-    Some((line, &rest[1..]))
 }
 
-// Takes over every line, and says how many there are.
-fn read_lines(draft: &mut Draft, text: &[u8]) -> Result<usize, StudyError>
-    requires { Few (view draft.old).orders }
-    ensures read { Agrees result (λ _. view draft.new) (lines_read 0 (view draft.old) (lines_of text.now)) }
-    ensures count { IfOk result (λ n. n ≡ length (lines_of text.now)) }
-{
-    let mut rest = text;
-    let mut number = 0;
-    while let Some((line, after)) = next_line(rest) {
-        number += 1;
-        draft.take(number, line)?;
-        rest = after;
+// The lines of a text, each without its line feed.
+#[derive(Drop)]
+struct Lines<'a>(&'a [u8]);
+
+impl<'a> Iterator for Lines<'a> {
+    type Item = &'a [u8];
+
+    ghost next_gives = { YieldsFirstRef (λ s. lines_of s.0.now) };
+
+    ghost remaining = { item_count (λ s. lines_of s.0.now) };
+
+    fn next(&mut self) -> Option<&'a [u8]> {
+        let (line, rest) = next_line(self.0)?;
+        self.0 = rest;
+        Some(line)
     }
-    Ok(number)
+}
+
+// Takes over every line.
+fn read_lines(draft: &mut Draft, text: &[u8]) -> Result<(), StudyError>
+    ensures { Agrees result (λ _. view draft.new) (lines_read 0 (view draft.old) (lines_of text.now)) }
+{
+    for (i, line) in Lines(text).enumerate() {
+        draft.take(i + 1, line)?;
+    }
+    Ok(())
+}
+
+fn count_lines(text: &[u8]) -> usize
+    ensures { result ≡ length (lines_of text.now) }
+{
+    Lines(text).count()
 }
 
 fn read_all(heap: Global, text: &[u8]) -> Result<Study, StudyError>
     ensures { Agrees result content (study_of text.now) }
 {
     let mut draft = Draft::new(heap);
-    let lines = read_lines(&mut draft, text)?;
-    draft.finish(lines)
+    read_lines(&mut draft, text)?;
+    draft.finish(count_lines(text))
 }
 
 // The study that the text writes, or its first fault. What is read is fit for a book, and whatever is fit for a book can be

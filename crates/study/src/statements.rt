@@ -3,15 +3,15 @@ ghost use Rattle.std.specs.Prelude.{◌≡◌};
 ghost use Rattle.study.specs.Wording.{words_of};
 ghost use Rattle.study.specs.Statements.{last_price, terms_of, order_from, order_of, statement_of, line_of};
 
+use crate::bytes::{all_comment, all_plain, find};
 use crate::faults::Reason;
 use crate::numbers::{price, quantity};
-use crate::scanning::{Class, every, run};
-use crate::wording::{check_end, kind, next_word, same, side};
+use crate::wording::{check_end, kind, next_word, side};
 use words::orders::Order;
 use words::sides::Side;
 use words::terms::{Condition, Kind, Terms};
 
-#[derive(Clone, Copy)]
+#[derive(Clone, Copy, Debug, PartialEq, Eq)]
 pub(crate) enum Line {
     Blank,
     Reference(u32),
@@ -23,9 +23,7 @@ pub(crate) enum Line {
 fn last_price(text: &[u8]) -> Result<u32, Reason>
     ensures { result ≡ last_price (words_of text.now) }
 {
-    let Some((word, rest)) = next_word(text) else {
-        return Err(Reason::MissingWord);
-    };
+    let (word, rest) = next_word(text).ok_or(Reason::MissingWord)?;
     let price = price(word)?;
     check_end(rest)?;
     Ok(price)
@@ -34,9 +32,7 @@ fn last_price(text: &[u8]) -> Result<u32, Reason>
 fn terms(text: &[u8]) -> Result<Terms, Reason>
     ensures { result ≡ terms_of (words_of text.now) }
 {
-    let Some((word, rest)) = next_word(text) else {
-        return Err(Reason::MissingWord);
-    };
+    let (word, rest) = next_word(text).ok_or(Reason::MissingWord)?;
     match kind(word)? {
         Kind::Limit => Ok(Terms::Limit(last_price(rest)?)),
         Kind::Market => {
@@ -54,9 +50,7 @@ fn terms(text: &[u8]) -> Result<Terms, Reason>
 fn order_on(side: Side, text: &[u8]) -> Result<Order, Reason>
     ensures { result ≡ order_from side (words_of text.now) }
 {
-    let Some((word, rest)) = next_word(text) else {
-        return Err(Reason::MissingWord);
-    };
+    let (word, rest) = next_word(text).ok_or(Reason::MissingWord)?;
     let quantity = quantity(word)?;
     let terms = terms(rest)?;
     Ok(Order {
@@ -71,9 +65,7 @@ fn order_on(side: Side, text: &[u8]) -> Result<Order, Reason>
 fn order(text: &[u8]) -> Result<Order, Reason>
     ensures { result ≡ order_of (words_of text.now) }
 {
-    let Some((word, rest)) = next_word(text) else {
-        return Err(Reason::MissingWord);
-    };
+    let (word, rest) = next_word(text).ok_or(Reason::MissingWord)?;
     let side = side(word)?;
     order_on(side, rest)
 }
@@ -84,21 +76,21 @@ fn statement(text: &[u8]) -> Result<Line, Reason>
     let Some((word, rest)) = next_word(text) else {
         return Ok(Line::Blank);
     };
-    if same(word, b"reference") {
-        return Ok(Line::Reference(last_price(rest)?));
+    if word == b"reference".as_slice() {
+        Ok(Line::Reference(last_price(rest)?))
+    } else if word == b"ask".as_slice() {
+        Ok(Line::Ask(order(rest)?))
+    } else {
+        Ok(Line::Entry(order(text)?))
     }
-    if same(word, b"ask") {
-        return Ok(Line::Ask(order(rest)?));
-    }
-    Ok(Line::Entry(order(text)?))
 }
 
 // What the line says, its comment left out.
 pub(crate) fn read_line(line: &[u8]) -> Result<Line, Reason>
     ensures { result ≡ line_of line.now }
 {
-    let (text, comment) = line.split_at(run(Class::Statement, line));
-    if !every(Class::Plain, text) || !every(Class::Comment, comment) {
+    let (text, comment) = line.split_at(find(b'#', line).unwrap_or(line.len()));
+    if !all_plain(text) || !all_comment(comment) {
         return Err(Reason::NotText);
     }
     statement(text)

@@ -1,25 +1,14 @@
-use Rattle.std.proofs.Common.{sym, ◌∙◌, arith}
+use Rattle.std.proofs.Common.{length, ap, ◌∙◌, inl, arith}
+use Rattle.std.specs.Iterator.Adapters.{enumerate_source, enumerate_count}
+use Rattle.study.specs.declared.reading.Lines.{Lines}
 use Rattle.study.specs.Studies.{lines_of}
-use Rattle.study.specs.Views.{view}
-use Rattle.study.proofs.Stepping.{read_more, count_more, read_none, count_none}
+use Rattle.study.proofs.Lines.{lines_le}
 use Rattle.study.proofs.reading.read_lines.Goals as goal
 
-pub loop-line-preserved : goal.loop-line-preserved
-loop-line-preserved c =
-    let cut = c.in-Some.ensures in
-    let after = c.in_ok-take.ensures in
-    let inv = c.loop-line.invariant in (
-      read_more c.loop-line.number (view c.loop-line.draft) (view c.take.new.self) (lines_of c.loop-line.rest.now) (lines_of c.in-Some.after.now) c.in-Some.line.now cut.lines after.step ∙ inv.0,
-      count_more c.loop-line.number _ (lines_of c.loop-line.rest.now) (lines_of c.in-Some.after.now) c.in-Some.line.now cut.lines inv.1,
-      after.few,
-      omega (arith, inv.3, cut.shorter),
-    )
-
-pub returns : goal.returns
-returns c =
-    let cut = c.in_default.ensures in
-    let inv = c.loop-line.invariant in
-    record {
-      read = sym inv.0 ∙ read_none c.loop-line.number (view c.loop-line.draft) (lines_of c.loop-line.rest.now) cut.lines;
-      count = count_none c.loop-line.number _ (lines_of c.loop-line.rest.now) cut.lines inv.1;
-    }
+pub loop-i-init-derived : goal.loop-i-init-derived
+loop-i-init-derived c =
+    let made = c.enumerate-i-items.ensures in
+    let same = c.into_iter-i-iterator.ensures.into_iter_gives in
+    let none = ap enumerate_count same ∙ made.count in
+    let all = ap (λ (s : Lines). length (lines_of s.0.now)) (ap enumerate_source same ∙ made.source) in
+    ((tt, tt, inl (omega (arith, none, all, lines_le c.args.text.now))), tt)
