@@ -1,5 +1,5 @@
 -- The orders of a study enter one after the other, and none is refused. Assumes nothing.
-use Rattle.std.proofs.Common.{◌≡◌, ℕ, zero, suc, ◌+◌, ◌<◌, ◌≤◌, true, cond, not, ◌&&◌, eqb, List, [], ◌∷◌, ◌++◌, length, get_or, take, drop, None, Option, sym, refl, ap, ◌∙◌, ap₂, arith, length-append, length-take}
+use Rattle.std.proofs.Common.{◌≡◌, ℕ, zero, suc, ◌+◌, ◌<◌, ◌≤◌, true, cond, not, ◌&&◌, eqb, List, [], ◌∷◌, ◌++◌, length, get_or, take, drop, None, Result, sym, refl, ap, ◌∙◌, ap₂, arith, length-append, length-take}
 use Rattle.std.proofs.lemmas.List.Elements.{filter-append}
 use Rattle.std.proofs.lemmas.List.Filters.{length-filter_both}
 use Rattle.std.proofs.lemmas.List.{take_more, take-append-drop, append-nil}
@@ -14,18 +14,19 @@ use Rattle.words.specs.declared.terms.Terms.{Terms}
 use Rattle.words.specs.declared.terms.Terms.TheVariants.{Limit, Market, MarketToLimit}
 use Rattle.words.specs.declared.terms.Condition.{Condition}
 use Rattle.words.specs.declared.terms.Condition.TheVariants.{Unconditional, ImmediateOrCancel, FillOrKill, BookOrCancel}
-use Rattle.words.specs.Orders.{no_order}
+use Rattle.words.specs.declared.orders.Ticket.{Ticket}
+use Rattle.words.specs.Orders.{no_order, ticket_of}
 use Rattle.words.specs.Refused.{first_due}
-use Rattle.words.specs.Terms.{is_quantity, kind_of, price_fits, terms_for}
+use Rattle.words.specs.Terms.{is_quantity, kind_of, price_in, price_fits, terms_for}
 use Rattle.pricing.specs.Sides.{sides}
 use Rattle.execution.specs.Laws.{standing}
 use Rattle.book.specs.Books.{joined_on}
 use Rattle.auction.specs.States.{State}
-use Rattle.auction.specs.Calls.{order_of, enter_rows, enter_by, entered}
+use Rattle.auction.specs.Calls.{order_of, enter_rows, enter_by, enter_step, entered}
 use Rattle.study.specs.Bytes.{all}
 use Rattle.study.specs.Studies.{same_side}
 use Rattle.study.specs.Sound.{fit_terms, is_unconditional, fit_order, numbered_from}
-use Rattle.inquiry.specs.Loading.{price_in, on_side, holding, FitOrders, put_step}
+use Rattle.inquiry.specs.Loading.{on_side, holding, FitOrders}
 
 -- ---- what is known of the order at a place
 
@@ -135,7 +136,7 @@ module _ (reference : ℕ) (os : List Order) (i : ℕ) (h : FitOrders os) (k : i
       let d = lt-leb 60000 (length t) (omega (arith, many, few_all os h)) in
       λ j. first_due ((not (a j), PriceUnfit) ∷ (not (b j), QuantityUnfit) ∷ (c j, SideFull) ∷ (d j, NumbersUsedUp) ∷ [])
 
-  granted : (put_step st o).0 ≡ entered st (order_of (st.last + 1) o.side (kind_of o.terms) (price_in o.terms) o.quantity)
+  granted : (enter_step st o.side (kind_of o.terms) (price_in o.terms) o.quantity).0 ≡ entered st (order_of (st.last + 1) o.side (kind_of o.terms) (price_in o.terms) o.quantity)
   granted = ap (λ w. (enter_by st o.side (kind_of o.terms) (price_in o.terms) o.quantity w).0) nothing_due
 
   same_order : entered st (order_of (st.last + 1) o.side (kind_of o.terms) (price_in o.terms) o.quantity) ≡ entered st o
@@ -150,6 +151,7 @@ module _ (reference : ℕ) (os : List Order) (i : ℕ) (h : FitOrders os) (k : i
       let last : length t + 1 ≡ length (t ++ o ∷ []) = sym (length-append t (o ∷ [])) in
       (λ j. record { reference = reference; last = last j; sides = join_on o.side t o refl j }) ∙ ap (holding reference) (sym more)
 
-  pub one_more : (s s' : State) (r : Option Refusal) → s ≡ holding reference (take i os)
-      → ◌≡◌ {A = State × Option Refusal} (s', r) (put_step s (get_or os i no_order)) → s' ≡ holding reference (take (i + 1) os)
-  one_more s s' r e f = ap (λ z. z.0) f ∙ ap (λ z. (put_step z o).0) e ∙ granted ∙ same_order ∙ holds
+  pub one_more : (s s' : State) (t : Ticket) (r : Result ℕ Refusal) → t ≡ ticket_of (get_or os i no_order) → s ≡ holding reference (take i os)
+      → ◌≡◌ {A = State × Result ℕ Refusal} (s', r) (enter_step s t.side t.kind t.price t.quantity) → s' ≡ holding reference (take (i + 1) os)
+  one_more s s' t r g e f =
+      ap (λ z. z.0) f ∙ ap₂ (λ (s : State) (t : Ticket). (enter_step s t.side t.kind t.price t.quantity).0) e g ∙ granted ∙ same_order ∙ holds
