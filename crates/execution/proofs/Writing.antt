@@ -1,34 +1,14 @@
--- The steps of the loops that rank a side and write the tape. Assumes nothing.
-use Rattle.std.proofs.Common.{◌≡◌, ℕ, ◌+◌, ◌<◌, ◌≤◌, min, Bool, true, false, cond, ltb, ◌⊎◌, List, [], ◌∷◌, ◌++◌, map, length, get_or, take, drop, set, filter, sym, refl, ap, ◌∙◌, ap₂, inl, inr, ⊎_elim, arith, length-take}
-use Rattle.std.proofs.lemmas.List.{take_more_set, drop-set-lt, drop-set, drop_more, drop-drop, drop_all, append_assoc, append-nil, take-append-drop, take_all}
+-- The steps of the loop that writes the tape. Assumes nothing.
+use Rattle.std.proofs.Common.{◌≡◌, ℕ, ◌+◌, ◌<◌, ◌≤◌, min, Bool, true, false, cond, ltb, ◌⊎◌, List, [], ◌∷◌, ◌++◌, map, length, get_or, take, drop, set, sym, refl, ap, ◌∙◌, ap₂, inl, inr, ⊎_elim, arith}
+use Rattle.std.proofs.lemmas.List.{take_more_set, drop-set-lt, drop-set, drop_more, drop-drop, drop_all, append_assoc, append-nil, take_all}
 use lib.Seq.{take-append-le}
-use Rattle.std.proofs.lemmas.List.Elements.{filter_more}
-use Rattle.std.proofs.lemmas.List.Sums.{fold_push}
 use Rattle.std.proofs.lemmas.Bool.{ltb-true}
 use Rattle.words.specs.declared.orders.Order.{Order}
 use Rattle.words.specs.declared.tape.Trade.{Trade}
 use Rattle.words.specs.Orders.{no_order}
-use Rattle.ranking.specs.Ranking.{insert_ranked, rank_sort}
-use Rattle.words.specs.declared.sides.Side.{Side}
 use Rattle.words.specs.Orders.{lowered}
-use Rattle.words.specs.Ranks.{ranks_before}
-use Rattle.pricing.specs.Sides.{can_trade}
-use Rattle.execution.specs.Execution.{less_first, pairs, line, ready, written}
+use Rattle.execution.specs.Execution.{less_first, pairs, line, written}
 use Rattle.execution.proofs.Walks.{pairs_none, pairs_step}
-
--- ---- one order more, ranked
-
-module _ (x : Side) (p : ℕ) where
-  sort_cond : (ks : List Order) (o : Order) (b : Bool) → cond b (insert_ranked (ranks_before x) o (rank_sort (ranks_before x) ks)) (rank_sort (ranks_before x) ks) ≡ rank_sort (ranks_before x) (ks ++ cond b (o ∷ []) [])
-  sort_cond ks o true = sym (fold_push (λ k y. insert_ranked (ranks_before x) y k) [] ks o)
-  sort_cond ks o false = ap (rank_sort (ranks_before x)) (sym (append-nil ks))
-
-  pub ready_more : (os was now : List Order) (i : ℕ) → i < length os → was ≡ ready x p (take i os)
-      → now ≡ cond (can_trade x p (get_or os i no_order)) (insert_ranked (ranks_before x) (get_or os i no_order) was) was → now ≡ ready x p (take (i + 1) os)
-  ready_more os was now i h e f =
-      let o = get_or os i no_order in
-      f ∙ ap (λ l. cond (can_trade x p o) (insert_ranked (ranks_before x) o l) l) e ∙ sort_cond (filter (can_trade x p) (take i os)) o (can_trade x p o)
-      ∙ ap (rank_sort (ranks_before x)) (sym (filter_more (can_trade x p) os i no_order h))
 
 -- ---- one pair more, written
 
@@ -75,11 +55,6 @@ write_all price bs ss tape i j n h =
     ap (λ ts. take n tape ++ map (line price) ts) (pairs_none (drop i bs) (drop j ss) (⊎_elim (λ k. inl (drop_all i bs k)) (λ k. inr (drop_all j ss k)) h)) ∙ append-nil (take n tape)
 
 -- ---- the whole tape
-
-pub written_is : (before after ls : List Trade) (n : ℕ) → take n after ≡ ls → drop n after ≡ drop n before → n ≤ length after → (n ≡ length ls) × (after ≡ written ls before)
-written_is before after ls n e f h =
-    let count : n ≡ length ls = omega (arith, ap length e, length-take n after) in
-    (count, sym (take-append-drop n after) ∙ ap₂ (λ a b. a ++ b) e (f ∙ ap (λ k. drop k before) count))
 
 pub written_front : (before after ls : List Trade) (n : ℕ) → n ≡ length ls → after ≡ written ls before → take n after ≡ ls
 written_front before after ls n e f = ap₂ take e f ∙ take-append-le (length ls) ls (drop (length ls) before) (omega arith) ∙ take_all (length ls) ls (omega arith)

@@ -1,4 +1,3 @@
 pub mod Lists
 pub mod Placing
 pub mod Ranked
-pub mod Walking
