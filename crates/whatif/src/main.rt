@@ -4,6 +4,7 @@
 use report::reports::report;
 use std::io::Read;
 use std::process::ExitCode;
+use std::rt::{Env, Files};
 use std::{env, fmt, fs, io};
 use study::faults::StudyError;
 
@@ -59,22 +60,28 @@ impl fmt::Display for Failure {
 }
 
 // The study's text: from the file that is named, or from standard input.
-fn read_input(rt: &HostRuntime, file: &Option<String>) -> io::Result<Vec<u8>> {
+fn read_input(
+    rt: &(impl AllocGlobal + Files + Input),
+    file: &Option<String>,
+) -> io::Result<Vec<u8>> {
     if let Some(path) = file {
         return fs::read(rt, path.as_str());
     }
     let mut text = Vec::new(rt.alloc());
-    rt.stdin().read_to_end(&mut text)?;
+    rt.reader().read_to_end(&mut text)?;
     Ok(text)
 }
 
-fn answer(rt: &HostRuntime, file: Option<String>) -> Result<String, Failure> {
+fn answer(
+    rt: &(impl AllocGlobal + Files + Input),
+    file: Option<String>,
+) -> Result<String, Failure> {
     let text = read_input(rt, &file).map_err(|cause| Failure::Input(file, cause))?;
     report(rt.alloc(), text.as_slice()).map_err(Failure::Study)
 }
 
 // Prints what the words of the command line ask for. What is wrong with them, with a study or with its file is told in one line.
-fn run(rt: &HostRuntime) -> io::Result<ExitCode> {
+fn run(rt: &(impl AllocGlobal + Env + Eprint + Files + Input + Print)) -> io::Result<ExitCode> {
     let mut words = env::args(rt)?.skip(1);
     let file = words.next();
     if file.as_ref().is_some_and(|word| word.as_str() == "--help") {
