@@ -1,9 +1,8 @@
 // The answer to a whole study.
-ghost use Rattle.std.specs.Prelude.{◌≡◌, true, IfSome};
+ghost use Rattle.std.specs.Prelude.{IfSome};
 ghost use Rattle.inquiry.specs.Questions.{Askable};
 ghost use Rattle.report.specs.Reports.{Answers};
-ghost use Rattle.study.specs.Bytes.{all};
-ghost use Rattle.study.specs.Sound.{Sound, fit_order, is_unnumbered};
+ghost use Rattle.study.specs.Sound.{Sound};
 ghost use Rattle.study.specs.Studies.{study_of};
 ghost use Rattle.study.specs.Views.{content};
 
@@ -88,10 +87,10 @@ impl Writer<'_> {
         self.trades(Some(asked))
     }
 
-    fn questions(&mut self, asks: &[Order]) -> Result<(), AllocError>
-        requires { (all fit_order asks.now ≡ true) × (all is_unnumbered asks.now ≡ true) }
+    fn questions(&mut self, study: &Study) -> Result<(), AllocError>
+        requires { Sound (content study.now) }
     {
-        for (i, asked) in asks.iter().enumerate() {
+        for (i, asked) in study.asks.iter().enumerate() {
             write!(self.out, "\nQuestion {}: {}\n\n", i + 1, OrderText(*asked))?;
             self.question(*asked)?;
         }
@@ -106,7 +105,7 @@ impl Writer<'_> {
         if study.asks.is_empty() {
             self.call()
         } else {
-            self.questions(study.asks.as_slice())
+            self.questions(study)
         }
     }
 }

@@ -63,7 +63,7 @@ impl fmt::Display for Name {
     }
 }
 
-// A price in leva, or the word for none.
+// A price in leva, of at most eleven characters, or the word for none.
 #[derive(Clone, Copy)]
 pub(crate) struct PriceText(pub(crate) Option<u32>);
 
