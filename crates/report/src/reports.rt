@@ -43,7 +43,7 @@ impl Writer<'_> {
             Some(order) => trades_with(&mut self.auction, order, tape.as_mut_slice()),
             None => trades_of(&mut self.auction, tape.as_mut_slice()),
         };
-        let lines = tape.get(0..struck.lines).unwrap_or(&[]);
+        let lines = tape.get(..struck.lines).unwrap_or(&[]);
         let trades = Trades(lines);
         let rest = Rest {
             orders: self.orders,
