@@ -2,11 +2,11 @@
 use Rattle.std.specs.Prelude.{◌≡◌, Ok, Err, Result, ◌≢◌}
 use Rattle.study.specs.declared.faults.Fault.{Fault}
 use Rattle.study.specs.Studies.{Content}
-use Rattle.report.specs.declared.reports.ReportError.{ReportError}
-use Rattle.report.specs.declared.reports.ReportError.TheVariants as errors
+use Rattle.study.specs.declared.faults.StudyError.{StudyError}
+use Rattle.study.specs.declared.faults.StudyError.TheVariants as errors
 
 -- a text with a fault gets that fault and no answer, a text without one gets no fault; memory may be wanting either way
-abbrev pub Answers : {A : Type 0} → Result Content Fault → Result A ReportError → Type 0
+abbrev pub Answers : {A : Type 0} → Result Content Fault → Result A StudyError → Type 0
 Answers c (Ok answer) = (f : Fault) → c ≢ Err f
 Answers c (Err (errors.Fault f)) = c ≡ Err f
 Answers c (Err errors.NoMemory) = Unit {0}

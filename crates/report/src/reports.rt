@@ -1,206 +1,127 @@
 // The answer to a whole study.
-ghost use Rattle.std.specs.Prelude.{◌≡◌, true, IfOk, vec_len};
+ghost use Rattle.std.specs.Prelude.{IfSome};
 ghost use Rattle.inquiry.specs.Questions.{Askable};
 ghost use Rattle.report.specs.Reports.{Answers};
-ghost use Rattle.study.specs.Bytes.{all};
-ghost use Rattle.study.specs.Sound.{Sound, fit_order, is_unnumbered};
+ghost use Rattle.study.specs.Sound.{Sound};
 ghost use Rattle.study.specs.Studies.{study_of};
 ghost use Rattle.study.specs.Views.{content};
 
-use crate::pictures::{prices_of, write_picture};
-use crate::tables::{
-    write_order, write_orders, write_outcome, write_outcome_head, write_rest, write_sentence,
-    write_shares, write_trades,
-};
+use crate::pictures::Picture;
+use crate::tables::{OrderText, Orders, Outcomes, Rest, Sentence, Shares, Trades};
 use auction::held::Auction;
 use inquiry::loading::load;
 use inquiry::questions::{answer_to, trades_of, trades_with};
 use std::alloc::{AllocError, Global};
-use std::fmt;
-use study::faults::{Fault, StudyError};
+use study::faults::StudyError;
 use study::numbers::Leva;
 use study::reading::{Study, read_study};
 use words::orders::Order;
 use words::tape::Trade;
 
-// Why a study has no answer.
-#[derive(Clone, Copy)]
-pub enum ReportError {
-    Fault(Fault),
-    NoMemory,
+// An answer under way: what is written of it so far, and the auction and the orders that it is about.
+#[derive(Drop)]
+struct Writer<'a> {
+    heap: Global,
+    out: String,
+    auction: Auction,
+    orders: &'a [Order],
 }
 
-// There is no memory for the answer. Text is written into memory alone, so that nothing else can fail.
-#[derive(Clone, Copy)]
-struct NoRoom;
-
-impl From<AllocError> for NoRoom {
-    fn from(_e: AllocError) -> NoRoom {
-        NoRoom
+impl Writer<'_> {
+    // Demand and supply by price, and the auction price that was found.
+    fn picture(&mut self, asked: Option<Order>, found: Option<u32>) -> Result<(), AllocError> {
+        let picture = Picture::new(self.heap, &self.auction, self.orders, asked, found)?;
+        write!(self.out, "\n{picture}")
     }
-}
 
-impl From<fmt::Error> for NoRoom {
-    fn from(_e: fmt::Error) -> NoRoom {
-        NoRoom
+    // The trades of the call, or of the call with the asked order in it, and what stays after them.
+    fn trades(&mut self, asked: Option<Order>) -> Result<(), AllocError>
+        requires { IfSome asked Askable }
+    {
+        let mut tape = vec![in self.heap; Trade::default(); 256]?;
+        let struck = match asked {
+            Some(order) => trades_with(&mut self.auction, order, tape.as_mut_slice()),
+            None => trades_of(&mut self.auction, tape.as_mut_slice()),
+        };
+        let lines = tape.get(..struck.lines).unwrap_or(&[]);
+        let trades = Trades(lines);
+        let rest = Rest {
+            orders: self.orders,
+            asked,
+            lines,
+        };
+        write!(self.out, "\n{trades}\n{rest}")
     }
-}
 
-impl fmt::Display for ReportError {
-    fn fmt<W: fmt::Write>(&self, f: &mut fmt::Formatter<W>) -> fmt::Result {
-        match self {
-            ReportError::Fault(fault) => {
-                let line = fault.line.max(1);
-                let reason = fault.reason;
-                write!(f, "line {line}: {reason}")
-            }
-            ReportError::NoMemory => write!(f, "there is not enough memory"),
+    // The book, and what its call gives as it stands.
+    fn book(&mut self, reference: u32) -> Result<(), AllocError> {
+        let reference = Leva(reference);
+        let orders = Orders(self.orders);
+        let outcome = self.auction.outcome();
+        let outcomes = Outcomes(&[("the call", outcome)]);
+        let sentence = Sentence(outcome);
+        write!(
+            self.out,
+            "The book at reference price {reference}\n\n{orders}\nThe call as it stands\n\n{outcomes}\n{sentence}"
+        )
+    }
+
+    // The book without a question: what its call gives.
+    fn call(&mut self) -> Result<(), AllocError> {
+        let found = self.auction.outcome().price;
+        self.picture(None, found)?;
+        self.trades(None)
+    }
+
+    // One question: what the call gives with the asked order in it.
+    fn question(&mut self, asked: Order) -> Result<(), AllocError>
+        requires { Askable asked }
+    {
+        let without = self.auction.outcome();
+        let answer = answer_to(&mut self.auction, asked);
+        let outcomes = Outcomes(&[("without it", without), ("with it", answer.outcome)]);
+        let sentence = Sentence(answer.outcome);
+        let shares = Shares { asked, answer };
+        write!(self.out, "{outcomes}\n{sentence}{shares}")?;
+        self.picture(Some(asked), answer.outcome.price)?;
+        self.trades(Some(asked))
+    }
+
+    fn questions(&mut self, study: &Study) -> Result<(), AllocError>
+        requires { Sound (content study.now) }
+    {
+        for (i, asked) in study.asks.iter().enumerate() {
+            write!(self.out, "\nQuestion {}: {}\n\n", i + 1, OrderText(*asked))?;
+            self.question(*asked)?;
+        }
+        Ok(())
+    }
+
+    // The whole answer to the study.
+    fn answer(&mut self, study: &Study) -> Result<(), AllocError>
+        requires { Sound (content study.now) }
+    {
+        self.book(study.reference)?;
+        if study.asks.is_empty() {
+            self.call()
+        } else {
+            self.questions(study)
         }
     }
 }
 
-// A tape long enough for every call.
-fn blank_tape(heap: Global) -> Result<Vec<Trade>, AllocError>
-    ensures { IfOk result (λ v. vec_len v ≡ 256) }
-{
-    let blank = Trade {
-        buy: 0,
-        sell: 0,
-        price: 0,
-        quantity: 0,
-    };
-    vec![in heap; blank; 256]
-}
-
-// The book without a question: what its call gives.
-fn write_call(
-    heap: Global,
-    out: &mut String,
-    auction: &mut Auction,
-    orders: &[Order],
-) -> Result<(), NoRoom> {
-    let mut tape = blank_tape(heap)?;
-    let found = auction.outcome().price;
-    let prices = prices_of(heap, orders, None, found)?;
-    writeln!(out, "")?;
-    write_picture(out, auction, None, found, prices.as_slice())?;
-    let struck = trades_of(auction, tape.as_mut_slice());
-    let lines = tape.get(0..struck.lines).unwrap_or(&[]);
-    writeln!(out, "")?;
-    write_trades(out, lines)?;
-    writeln!(out, "")?;
-    write_rest(out, orders, None, lines)?;
-    Ok(())
-}
-
-// The trades with the asked order, and what stays after them.
-fn write_asked_trades(
-    heap: Global,
-    out: &mut String,
-    auction: &mut Auction,
-    orders: &[Order],
-    asked: Order,
-) -> Result<(), NoRoom>
-    requires { Askable asked }
-{
-    let mut tape = blank_tape(heap)?;
-    let struck = trades_with(auction, asked, tape.as_mut_slice());
-    let lines = tape.get(0..struck.lines).unwrap_or(&[]);
-    writeln!(out, "")?;
-    write_trades(out, lines)?;
-    writeln!(out, "")?;
-    write_rest(out, orders, Some(asked), lines)?;
-    Ok(())
-}
-
-// One question: what the call gives with the asked order in it.
-fn write_question(
-    heap: Global,
-    out: &mut String,
-    auction: &mut Auction,
-    orders: &[Order],
-    asked: Order,
-) -> Result<(), NoRoom>
-    requires { Askable asked }
-{
-    let without = auction.outcome();
-    let answer = answer_to(auction, asked);
-    write_outcome_head(out)?;
-    write_outcome(out, "without it", without)?;
-    write_outcome(out, "with it", answer.outcome)?;
-    writeln!(out, "")?;
-    write_sentence(out, answer.outcome)?;
-    write_shares(out, asked, answer)?;
-    let found = answer.outcome.price;
-    let prices = prices_of(heap, orders, Some(asked), found)?;
-    writeln!(out, "")?;
-    write_picture(out, auction, Some(asked), found, prices.as_slice())?;
-    write_asked_trades(heap, out, auction, orders, asked)
-}
-
-fn write_questions(
-    heap: Global,
-    out: &mut String,
-    auction: &mut Auction,
-    orders: &[Order],
-    asks: &[Order],
-) -> Result<(), NoRoom>
-    requires { (all fit_order asks.now ≡ true) × (all is_unnumbered asks.now ≡ true) }
-{
-    for (i, asked) in asks.iter().enumerate() {
-        let number = i.saturating_add(1);
-        write!(out, "\nQuestion {number}: ")?;
-        write_order(out, *asked)?;
-        writeln!(out, "\n")?;
-        write_question(heap, out, auction, orders, *asked)?;
-    }
-    Ok(())
-}
-
-// The book, and what its call gives as it stands.
-fn write_book(out: &mut String, auction: &Auction, study: &Study) -> Result<(), NoRoom> {
-    let reference = Leva(study.reference);
-    writeln!(out, "The book at reference price {reference}\n")?;
-    write_orders(out, study.orders.as_slice())?;
-    writeln!(out, "\nThe call as it stands\n")?;
-    write_outcome_head(out)?;
-    let outcome = auction.outcome();
-    write_outcome(out, "the call", outcome)?;
-    writeln!(out, "")?;
-    write_sentence(out, outcome)?;
-    Ok(())
-}
-
-// The whole answer to a study that was read.
-fn answer_study(heap: Global, study: &Study) -> Result<String, NoRoom>
-    requires { Sound (content study.now) }
-{
-    let Ok(mut auction) = load(heap, study) else {
-        return Err(NoRoom);
-    };
-    let mut out = String::new(heap);
-    write_book(&mut out, &auction, study)?;
-    let orders = study.orders.as_slice();
-    let asks = study.asks.as_slice();
-    if asks.is_empty() {
-        write_call(heap, &mut out, &mut auction, orders)?;
-    } else {
-        write_questions(heap, &mut out, &mut auction, orders, asks)?;
-    }
-    Ok(out)
-}
-
 // The answer to a study, as text, or why there is none.
-pub fn report(heap: Global, text: &[u8]) -> Result<String, ReportError>
+pub fn report(heap: Global, text: &[u8]) -> Result<String, StudyError>
     ensures { Answers (study_of text.now) result }
 {
-    let study = match read_study(heap, text) {
-        Ok(study) => study,
-        Err(StudyError::Fault(fault)) => return Err(ReportError::Fault(fault)),
-        Err(StudyError::NoMemory) => return Err(ReportError::NoMemory),
+    let study = read_study(heap, text)?;
+    let auction = load(heap, &study).map_err(|_| StudyError::NoMemory)?;
+    let mut writer = Writer {
+        heap,
+        out: String::new(heap),
+        auction,
+        orders: study.orders.as_slice(),
     };
-    match answer_study(heap, &study) {
-        Ok(answer) => Ok(answer),
-        Err(NoRoom) => Err(ReportError::NoMemory),
-    }
+    writer.answer(&study)?;
+    Ok(writer.out)
 }

@@ -2,7 +2,9 @@
 use book::asking::Answer;
 use execution::settling::left_of;
 use pricing::outcomes::Outcome;
+use std::cmp::Ordering;
 use std::fmt;
+use std::fmt::InlineText;
 use study::numbers::Leva;
 use words::orders::Order;
 use words::sides::Side;
@@ -10,188 +12,214 @@ use words::tape::Trade;
 use words::terms::Terms;
 
 // The kind of an order and its limit, as a study writes them.
-#[derive(Drop)]
+#[derive(Clone, Copy)]
 struct TermsText(Terms);
 
 impl fmt::Display for TermsText {
     fn fmt<W: fmt::Write>(&self, f: &mut fmt::Formatter<W>) -> fmt::Result {
         match self.0 {
-            Terms::Limit(limit) => {
-                let price = Leva(limit);
-                write!(f, "at {price}")
-            }
-            Terms::Market => write!(f, "market"),
-            Terms::MarketToLimit => write!(f, "market-to-limit"),
+            Terms::Limit(limit) => write!(f, "at {}", Leva(limit)),
+            Terms::Market => f.write_str("market"),
+            Terms::MarketToLimit => f.write_str("market-to-limit"),
         }
     }
 }
 
-pub(crate) fn side_name(side: Side) -> &'static str {
-    match side {
-        Side::Buy => "buy",
-        Side::Sell => "sell",
+// A side, as a study writes it.
+#[derive(Clone, Copy)]
+struct SideText(Side);
+
+impl fmt::Display for SideText {
+    fn fmt<W: fmt::Write>(&self, f: &mut fmt::Formatter<W>) -> fmt::Result {
+        f.pad(match self.0 {
+            Side::Buy => "buy",
+            Side::Sell => "sell",
+        })
     }
 }
 
 // An order as a study writes it: side, quantity and terms.
-pub(crate) fn write_order<W: fmt::Write>(out: &mut W, order: Order) -> fmt::Result {
-    let side = side_name(order.side);
-    let quantity = order.quantity;
-    let terms = TermsText(order.terms);
-    write!(out, "{side} {quantity} {terms}")
-}
+#[derive(Clone, Copy)]
+pub(crate) struct OrderText(pub(crate) Order);
 
-// An order's number in a column of seven, or the word for the asked one.
-fn write_name<W: fmt::Write>(out: &mut W, number: u16) -> fmt::Result {
-    if number == 0 {
-        return write!(out, "  asked");
+impl fmt::Display for OrderText {
+    fn fmt<W: fmt::Write>(&self, f: &mut fmt::Formatter<W>) -> fmt::Result {
+        let side = SideText(self.0.side);
+        let terms = TermsText(self.0.terms);
+        write!(f, "{side} {} {terms}", self.0.quantity)
     }
-    write!(out, "{number:>7}")
 }
 
-// A price in a column of ten.
-pub(crate) fn write_price<W: fmt::Write>(out: &mut W, price: u32) -> fmt::Result {
-    let leva = price / 100;
-    let tenths = price / 10 % 10;
-    let hundredths = price % 10;
-    write!(out, "{leva:>7}.{tenths}{hundredths}")
-}
+// An order's number, or the word for the asked one.
+#[derive(Clone, Copy)]
+struct Name(u16);
 
-fn write_line<W: fmt::Write>(out: &mut W, order: Order) -> fmt::Result {
-    write_name(out, order.number)?;
-    let side = side_name(order.side);
-    let quantity = order.quantity;
-    let terms = TermsText(order.terms);
-    writeln!(out, "  {side:<4}  {quantity:>9}  {terms}")
-}
-
-// Orders, one a line.
-pub(crate) fn write_orders<W: fmt::Write>(out: &mut W, orders: &[Order]) -> fmt::Result {
-    writeln!(out, " number  side   quantity  terms")?;
-    for order in orders {
-        write_line(out, *order)?;
+impl fmt::Display for Name {
+    fn fmt<W: fmt::Write>(&self, f: &mut fmt::Formatter<W>) -> fmt::Result {
+        match self.0 {
+            0 => f.pad("asked"),
+            number => number.fmt(f),
+        }
     }
-    Ok(())
+}
+
+// A price in leva, of at most eleven characters, or the word for none.
+#[derive(Clone, Copy)]
+pub(crate) struct PriceText(pub(crate) Option<u32>);
+
+impl fmt::Display for PriceText {
+    fn fmt<W: fmt::Write>(&self, f: &mut fmt::Formatter<W>) -> fmt::Result {
+        match self.0 {
+            Some(price) => f.pad(InlineText::<11>::of(Leva(price)).as_str()),
+            None => f.pad("none"),
+        }
+    }
 }
 
 // A number with its sign in a column of twelve; 0 has none.
-fn write_signed<W: fmt::Write>(out: &mut W, number: i64) -> fmt::Result {
-    if number == 0 {
-        return write!(out, "           0");
+#[derive(Clone, Copy)]
+struct Signed(i64);
+
+impl fmt::Display for Signed {
+    fn fmt<W: fmt::Write>(&self, f: &mut fmt::Formatter<W>) -> fmt::Result {
+        match self.0 {
+            0 => write!(f, "{:>12}", 0),
+            number => write!(f, "{number:>+12}"),
+        }
     }
-    write!(out, "{number:>+12}")
 }
 
-// What a call gives, as one line of a table.
-pub(crate) fn write_outcome<W: fmt::Write>(
-    out: &mut W,
-    label: &str,
-    outcome: Outcome,
-) -> fmt::Result {
-    write!(out, "  {label:<12}")?;
-    match outcome.price {
-        Some(price) => write_price(out, price)?,
-        None => write!(out, "      none")?,
+// An order as a line of a table.
+#[derive(Clone, Copy)]
+struct Line(Order);
+
+impl fmt::Display for Line {
+    fn fmt<W: fmt::Write>(&self, f: &mut fmt::Formatter<W>) -> fmt::Result {
+        let name = Name(self.0.number);
+        let side = SideText(self.0.side);
+        let terms = TermsText(self.0.terms);
+        writeln!(f, "{name:>7}  {side:<4}  {:>9}  {terms}", self.0.quantity)
     }
-    let volume = outcome.volume;
-    write!(out, "  {volume:>10}")?;
-    write_signed(out, outcome.surplus)?;
-    writeln!(out, "")
 }
 
-pub(crate) fn write_outcome_head<W: fmt::Write>(out: &mut W) -> fmt::Result {
-    writeln!(out, "                   price      volume     surplus")
+// Orders, one a line.
+#[derive(Clone, Copy)]
+pub(crate) struct Orders<'a>(pub(crate) &'a [Order]);
+
+impl fmt::Display for Orders<'_> {
+    fn fmt<W: fmt::Write>(&self, f: &mut fmt::Formatter<W>) -> fmt::Result {
+        writeln!(f, " number  side   quantity  terms")?;
+        for order in self.0 {
+            write!(f, "{}", Line(*order))?;
+        }
+        Ok(())
+    }
 }
 
-// The same in words.
-pub(crate) fn write_sentence<W: fmt::Write>(out: &mut W, outcome: Outcome) -> fmt::Result {
-    let Some(price) = outcome.price else {
-        return writeln!(out, "There is no price: nothing can trade.");
-    };
-    let price = Leva(price);
-    let volume = outcome.volume;
-    let more = outcome.surplus.unsigned_abs();
-    if outcome.surplus > 0 {
-        writeln!(
-            out,
-            "{volume} shares trade at {price}; {more} more are wanted there than offered."
-        )
-    } else if outcome.surplus < 0 {
-        writeln!(
-            out,
-            "{volume} shares trade at {price}; {more} more are offered there than wanted."
-        )
-    } else {
-        writeln!(
-            out,
-            "{volume} shares trade at {price}; as many are wanted there as offered."
-        )
+// What calls give, one a line under its label.
+#[derive(Clone, Copy)]
+pub(crate) struct Outcomes<'a>(pub(crate) &'a [(&'static str, Outcome)]);
+
+impl fmt::Display for Outcomes<'_> {
+    fn fmt<W: fmt::Write>(&self, f: &mut fmt::Formatter<W>) -> fmt::Result {
+        writeln!(f, "                   price      volume     surplus")?;
+        for (label, outcome) in self.0 {
+            let price = PriceText(outcome.price);
+            let surplus = Signed(outcome.surplus);
+            writeln!(
+                f,
+                "  {label:<12}{price:>10}  {:>10}{surplus}",
+                outcome.volume
+            )?;
+        }
+        Ok(())
+    }
+}
+
+// What a call gives, in words.
+#[derive(Clone, Copy)]
+pub(crate) struct Sentence(pub(crate) Outcome);
+
+impl fmt::Display for Sentence {
+    fn fmt<W: fmt::Write>(&self, f: &mut fmt::Formatter<W>) -> fmt::Result {
+        let Some(price) = self.0.price else {
+            return writeln!(f, "There is no price: nothing can trade.");
+        };
+        write!(f, "{} shares trade at {}; ", self.0.volume, Leva(price))?;
+        let more = self.0.surplus.unsigned_abs();
+        match self.0.surplus.cmp(&0) {
+            Ordering::Greater => writeln!(f, "{more} more are wanted there than offered."),
+            Ordering::Less => writeln!(f, "{more} more are offered there than wanted."),
+            Ordering::Equal => writeln!(f, "as many are wanted there as offered."),
+        }
     }
 }
 
 // The trades of a call, one a line.
-pub(crate) fn write_trades<W: fmt::Write>(out: &mut W, lines: &[Trade]) -> fmt::Result {
-    if lines.is_empty() {
-        return writeln!(out, "No trades.");
-    }
-    writeln!(out, "Trades\n  buyer  seller       price    quantity")?;
-    for line in lines {
-        write_name(out, line.buy)?;
-        write!(out, " ")?;
-        write_name(out, line.sell)?;
-        write!(out, "  ")?;
-        write_price(out, line.price)?;
-        let quantity = line.quantity;
-        writeln!(out, "  {quantity:>10}")?;
-    }
-    Ok(())
-}
+#[derive(Clone, Copy)]
+pub(crate) struct Trades<'a>(pub(crate) &'a [Trade]);
 
-// What is left of an order after the trades, unless nothing is.
-fn write_left<W: fmt::Write>(out: &mut W, order: Order, lines: &[Trade]) -> fmt::Result {
-    let left = left_of(order.side, order, lines);
-    if left.quantity == 0 {
-        return Ok(());
+impl fmt::Display for Trades<'_> {
+    fn fmt<W: fmt::Write>(&self, f: &mut fmt::Formatter<W>) -> fmt::Result {
+        if self.0.is_empty() {
+            return writeln!(f, "No trades.");
+        }
+        writeln!(f, "Trades\n  buyer  seller       price    quantity")?;
+        for line in self.0 {
+            let buyer = Name(line.buy);
+            let seller = Name(line.sell);
+            let price = PriceText(Some(line.price));
+            writeln!(
+                f,
+                "{buyer:>7} {seller:>7}  {price:>10}  {:>10}",
+                line.quantity
+            )?;
+        }
+        Ok(())
     }
-    write_line(out, left)
 }
 
 // What stays in the book after the trades.
-pub(crate) fn write_rest<W: fmt::Write>(
-    out: &mut W,
-    orders: &[Order],
-    asked: Option<Order>,
-    lines: &[Trade],
-) -> fmt::Result {
-    writeln!(
-        out,
-        "What stays in the book\n number  side       open  terms"
-    )?;
-    for order in orders {
-        write_left(out, *order, lines)?;
-    }
-    match asked {
-        Some(order) => write_left(out, order, lines),
-        None => Ok(()),
+#[derive(Clone, Copy)]
+pub(crate) struct Rest<'a> {
+    pub(crate) orders: &'a [Order],
+    pub(crate) asked: Option<Order>,
+    pub(crate) lines: &'a [Trade],
+}
+
+impl fmt::Display for Rest<'_> {
+    fn fmt<W: fmt::Write>(&self, f: &mut fmt::Formatter<W>) -> fmt::Result {
+        writeln!(f, "What stays in the book\n number  side       open  terms")?;
+        for order in self.orders.iter().chain(&self.asked) {
+            let left = left_of(order.side, *order, self.lines);
+            if left.quantity > 0 {
+                write!(f, "{}", Line(left))?;
+            }
+        }
+        Ok(())
     }
 }
 
 // How many shares the asked order gets, and at what price.
-pub(crate) fn write_shares<W: fmt::Write>(
-    out: &mut W,
-    asked: Order,
-    answer: Answer,
-) -> fmt::Result {
-    let shares = answer.shares;
-    let quantity = asked.quantity;
-    match answer.outcome.price {
-        Some(price) if shares > 0 => {
-            let price = Leva(price);
-            writeln!(
-                out,
-                "The asked order gets {shares} of its {quantity} shares, at {price}."
-            )
+#[derive(Clone, Copy)]
+pub(crate) struct Shares {
+    pub(crate) asked: Order,
+    pub(crate) answer: Answer,
+}
+
+impl fmt::Display for Shares {
+    fn fmt<W: fmt::Write>(&self, f: &mut fmt::Formatter<W>) -> fmt::Result {
+        let shares = self.answer.shares;
+        let quantity = self.asked.quantity;
+        match self.answer.outcome.price {
+            Some(price) if shares > 0 => {
+                let price = Leva(price);
+                writeln!(
+                    f,
+                    "The asked order gets {shares} of its {quantity} shares, at {price}."
+                )
+            }
+            _ => writeln!(f, "The asked order gets none of its {quantity} shares."),
         }
-        _ => writeln!(out, "The asked order gets none of its {quantity} shares."),
     }
 }

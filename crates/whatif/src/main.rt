@@ -1,11 +1,12 @@
 #![tactic(auto)]
 
 // whatif: what would a call auction give with one more order in it?
-use anyhow::anyhow;
 use report::reports::report;
 use std::io::Read;
 use std::process::ExitCode;
-use std::{env, fs};
+use std::rt::{Env, Files};
+use std::{env, fmt, fs, io};
+use study::faults::StudyError;
 
 const HELP: &str = "whatif: the price of a call auction, and what one more order would get
 
@@ -38,62 +39,71 @@ ask buy 40000 at 4.50
 END
 ";
 
-// The study's text: from the file that is named, or from standard input.
-fn read_input(rt: &HostRuntime, file: Option<&str>) -> anyhow::Result<Vec<u8>> {
-    match file {
-        Some(path) => Ok(fs::read(rt, path)?),
-        None => {
-            let mut text = Vec::new(rt.alloc());
-            let _ = rt.stdin().read_to_end(&mut text)?;
-            Ok(text)
+// Why there is no answer.
+#[derive(Drop)]
+enum Failure {
+    TooManyWords,
+    // the file that cannot be read, or none where it is standard input
+    Input(Option<String>, io::Error),
+    Study(StudyError),
+}
+
+impl fmt::Display for Failure {
+    fn fmt<W: fmt::Write>(&self, f: &mut fmt::Formatter<W>) -> fmt::Result {
+        match self {
+            Failure::TooManyWords => write!(f, "one file at most; try whatif --help"),
+            Failure::Input(Some(file), cause) => write!(f, "{file}: {cause}"),
+            Failure::Input(None, cause) => write!(f, "standard input: {cause}"),
+            Failure::Study(cause) => write!(f, "{cause}"),
         }
     }
 }
 
-fn answer(rt: &HostRuntime, file: Option<&str>) -> anyhow::Result<()> {
-    let text = match read_input(rt, file) {
-        Ok(text) => text,
-        Err(e) => {
-            let name = file.unwrap_or("standard input");
-            eprintln!(rt; "whatif: {name}: {e}")?;
-            return Err(anyhow!("no input"));
-        }
+// The study's text: from the file that is named, or from standard input.
+fn read_input(
+    rt: &(impl AllocGlobal + Files + Input),
+    file: &Option<String>,
+) -> io::Result<Vec<u8>> {
+    if let Some(path) = file {
+        return fs::read(rt, path.as_str());
+    }
+    let mut text = Vec::new(rt.alloc());
+    rt.reader().read_to_end(&mut text)?;
+    Ok(text)
+}
+
+fn answer(
+    rt: &(impl AllocGlobal + Files + Input),
+    file: Option<String>,
+) -> Result<String, Failure> {
+    let text = read_input(rt, &file).map_err(|cause| Failure::Input(file, cause))?;
+    report(rt.alloc(), text.as_slice()).map_err(Failure::Study)
+}
+
+// Prints what the words of the command line ask for. What is wrong with them, with a study or with its file is told in one line.
+fn run(rt: &(impl AllocGlobal + Env + Eprint + Files + Input + Print)) -> io::Result<ExitCode> {
+    let mut words = env::args(rt)?.skip(1);
+    let file = words.next();
+    if file.as_ref().is_some_and(|word| word.as_str() == "--help") {
+        print!(rt; "{HELP}")?;
+        return Ok(ExitCode::SUCCESS);
+    }
+    let answer = match words.next() {
+        None => answer(rt, file),
+        Some(_) => Err(Failure::TooManyWords),
     };
-    match report(rt.alloc(), text.as_slice()) {
+    match answer {
         Ok(answer) => {
             print!(rt; "{answer}")?;
-            Ok(())
+            Ok(ExitCode::SUCCESS)
         }
-        Err(e) => {
-            eprintln!(rt; "whatif: {e}")?;
-            Err(anyhow!("no answer"))
-        }
-    }
-}
-
-fn run(rt: &HostRuntime) -> anyhow::Result<()> {
-    let mut args = env::args(rt)?;
-    let _ = args.next();
-    match args.next() {
-        None => answer(rt, None),
-        Some(word) => {
-            if word.as_str() == "--help" {
-                print!(rt; "{HELP}")?;
-                return Ok(());
-            }
-            if args.next().is_some() {
-                eprintln!(rt; "whatif: one file at most; try whatif --help")?;
-                return Err(anyhow!("too many words"));
-            }
-            answer(rt, Some(word.as_str()))
+        Err(failure) => {
+            eprintln!(rt; "whatif: {failure}")?;
+            Ok(ExitCode::FAILURE)
         }
     }
 }
 
 fn main(rt: HostRuntime) -> ExitCode {
-    match run(&rt) {
-        Ok(()) => ExitCode::SUCCESS,
-        // what is wrong with a study or its file was told in a line of its own
-        Err(_) => ExitCode::FAILURE,
-    }
+    run(&rt).unwrap_or(ExitCode::FAILURE)
 }
