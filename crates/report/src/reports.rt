@@ -1,16 +1,12 @@
 // The answer to a whole study.
-ghost use Rattle.std.specs.Prelude.{IfSome};
-ghost use Rattle.inquiry.specs.Questions.{Askable};
 ghost use Rattle.report.specs.Reports.{Answers};
-ghost use Rattle.study.specs.Sound.{Sound};
 ghost use Rattle.study.specs.Studies.{study_of};
-ghost use Rattle.study.specs.Views.{content};
 
 use crate::pictures::Picture;
 use crate::tables::{OrderText, Orders, Outcomes, Rest, Sentence, Shares, Trades};
 use auction::held::Auction;
 use inquiry::loading::load;
-use inquiry::questions::{answer_to, trades_of, trades_with};
+use inquiry::questions::{Question, trades_of};
 use std::alloc::{AllocError, Global};
 use study::faults::StudyError;
 use study::numbers::Leva;
@@ -35,19 +31,17 @@ impl Writer<'_> {
     }
 
     // The trades of the call, or of the call with the asked order in it, and what stays after them.
-    fn trades(&mut self, asked: Option<Order>) -> Result<(), AllocError>
-        requires { IfSome asked Askable }
-    {
+    fn trades(&mut self, question: Option<Question>) -> Result<(), AllocError> {
         let mut tape = vec![in self.heap; Trade::default(); 256]?;
-        let struck = match asked {
-            Some(order) => trades_with(&mut self.auction, order, tape.as_mut_slice()),
+        let struck = match question {
+            Some(question) => question.trades(&mut self.auction, tape.as_mut_slice()),
             None => trades_of(&mut self.auction, tape.as_mut_slice()),
         };
         let lines = tape.get(..struck.lines).unwrap_or(&[]);
         let trades = Trades(lines);
         let rest = Rest {
             orders: self.orders,
-            asked,
+            asked: question.map(|question| question.order),
             lines,
         };
         write!(self.out, "\n{trades}\n{rest}")
@@ -74,33 +68,28 @@ impl Writer<'_> {
     }
 
     // One question: what the call gives with the asked order in it.
-    fn question(&mut self, asked: Order) -> Result<(), AllocError>
-        requires { Askable asked }
-    {
+    fn question(&mut self, question: Question) -> Result<(), AllocError> {
+        let asked = question.order;
         let without = self.auction.outcome();
-        let answer = answer_to(&mut self.auction, asked);
+        let answer = question.answer(&mut self.auction);
         let outcomes = Outcomes(&[("without it", without), ("with it", answer.outcome)]);
         let sentence = Sentence(answer.outcome);
         let shares = Shares { asked, answer };
         write!(self.out, "{outcomes}\n{sentence}{shares}")?;
         self.picture(Some(asked), answer.outcome.price)?;
-        self.trades(Some(asked))
+        self.trades(Some(question))
     }
 
-    fn questions(&mut self, study: &Study) -> Result<(), AllocError>
-        requires { Sound (content study.now) }
-    {
+    fn questions(&mut self, study: &Study) -> Result<(), AllocError> {
         for (i, asked) in study.asks.iter().enumerate() {
             write!(self.out, "\nQuestion {}: {}\n\n", i + 1, OrderText(*asked))?;
-            self.question(*asked)?;
+            self.question(Question::new(*asked))?;
         }
         Ok(())
     }
 
     // The whole answer to the study.
-    fn answer(&mut self, study: &Study) -> Result<(), AllocError>
-        requires { Sound (content study.now) }
-    {
+    fn answer(&mut self, study: &Study) -> Result<(), AllocError> {
         self.book(study.reference)?;
         if study.asks.is_empty() {
             self.call()

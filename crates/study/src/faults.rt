@@ -123,16 +123,3 @@ impl<T: Drop> From<AllocFailed<T>> for StudyError {
         AllocError.into()
     }
 }
-
-impl fmt::Display for StudyError {
-    fn fmt<W: fmt::Write>(&self, f: &mut fmt::Formatter<W>) -> fmt::Result {
-        match self {
-            StudyError::Fault(fault) => {
-                let line = fault.line.max(1);
-                let reason = fault.reason;
-                write!(f, "line {line}: {reason}")
-            }
-            StudyError::NoMemory => write!(f, "there is not enough memory"),
-        }
-    }
-}

@@ -11,6 +11,7 @@ use std::io::Read;
 use std::{fmt, io};
 use study::numbers::Leva;
 use study::reading::{Study, read_study};
+use words::orders::Ticket;
 
 // The line between two studies.
 const MARK: &[u8] = b"---\n";
@@ -34,8 +35,7 @@ fn print_answer(rt: &impl Print, auction: &mut Auction, study: &Study) -> io::Re
     let Some(asked) = study.asks.first() else {
         return println!(rt; "{} -", Numbers(auction.outcome()));
     };
-    let price = asked.terms.limit().unwrap_or(0);
-    match auction.ask(asked.side, asked.terms.kind(), price, asked.quantity) {
+    match auction.ask(Ticket::from(*asked)) {
         Ok(answer) => println!(rt; "{} {}", Numbers(answer.outcome), answer.shares),
         Err(why) => println!(rt; "refused {}", why.number()),
     }
