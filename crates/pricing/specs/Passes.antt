@@ -1,5 +1,5 @@
 -- The auction price by two passes over the limits: the best volume and surplus, and the ends of the prices that have them. Assumes nothing.
-use Rattle.std.specs.Prelude.{ℕ, ◌+◌, ◌-◌, ◌≤◌, min, max, Bool, cond, ◌&&◌, ◌||◌, List, length, Some, None, fold, Option, ◌==◌, nat_lt, slice_index_or}
+use Rattle.std.specs.Prelude.{◌≡◌, ℕ, ◌+◌, ◌-◌, ◌≤◌, min, max, Bool, cond, ◌&&◌, ◌||◌, List, length, Some, None, fold, Option, ◌==◌, nat_lt, slice_index_or}
 use Rattle.words.specs.declared.orders.Order.{Order}
 use Rattle.words.specs.Orders.{no_order}
 use Rattle.pricing.specs.declared.passes.Merit.{Merit}
@@ -65,3 +65,7 @@ nothing = record { volume = 0; gap = 0 }
 
 abbrev pub no_ends : Ends
 no_ends = record { above = None; below = None; low = None; high = None }
+
+-- the step of a fold over prices that gives what f says
+abbrev pub Gives : {A : Type 0} → (A → ℕ → A → Type 0) → (A → ℕ → A) → Type 0
+Gives {A} step f = (a : A) (p : ℕ) (r : A) → step a p r → r ≡ f a p

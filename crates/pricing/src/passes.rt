@@ -1,10 +1,8 @@
 // The auction price, found in two passes over the limits of a book.
-ghost use Rattle.std.specs.Prelude.{◌≡◌, min, ◌∷◌, ◌++◌, fold};
-ghost use Rattle.std.specs.List.{filter_map};
-ghost use Rattle.words.specs.Terms.{limit_of};
-ghost use Rattle.pricing.specs.Sides.{limits_of, limits, demand, supply};
+ghost use Rattle.std.specs.Prelude.{◌≡◌, ℕ, fold};
+ghost use Rattle.pricing.specs.Sides.{limits_of, limits};
 ghost use Rattle.pricing.specs.Price.{auction_price, none, nearest, market_only};
-ghost use Rattle.pricing.specs.Passes.{merit_of, better, best_from, widen, ends_from, choice, or_lower, nothing, no_ends};
+ghost use Rattle.pricing.specs.Passes.{merit_of, better, best_from, widen, ends_from, choice, or_lower, nothing, no_ends, Gives};
 
 use crate::standing::Standing;
 use std::cmp::Reverse;
@@ -99,54 +97,43 @@ fn no_limit(orders: &[Order]) -> bool
     orders.iter().all(|order| order.terms.limit().is_none())
 }
 
-impl Standing<'_> {
-    // The better of what was best and a limit more.
-    fn better_at(&self, best: Merit, limit: u32) -> Merit
-        ensures { result ≡ better best (merit_of (demand self.now limit) (supply self.now limit)) }
-    {
-        better_of(best, merit_of(self.demand(limit), self.supply(limit)))
-    }
+// A fold over the limits of some orders.
+fn over_limits<A, F: Fn(A, u32) -> A>(orders: &[Order], start: A, step: F) -> A
+    requires { F.IsAlwaysCallable step }
+    ensures { (f : A → ℕ → A) → Gives (F.post step) f → result ≡ fold f start (limits_of orders.now) }
+{
+    orders
+        .iter()
+        .filter_map(|order| order.terms.limit())
+        .fold(start, step)
+}
 
-    // The best over the limits of some orders, and of what was best before.
-    fn best_over(&self, orders: &[Order], start: Merit) -> Merit
-        ensures { result ≡ best_from self.now start (filter_map (λ o. limit_of o.terms) orders.now) }
+impl Standing<'_> {
+    // A fold over the limits of the book.
+    fn fold_limits<A, F: Fn(A, u32) -> A>(&self, start: A, step: F) -> A
+        requires { F.IsAlwaysCallable step }
+        ensures { (f : A → ℕ → A) → Gives (F.post step) f → result ≡ fold f start (limits self.now) }
     {
-        orders
-            .iter()
-            .filter_map(|order| order.terms.limit())
-            .fold(start, |best, limit| self.better_at(best, limit))
+        let of_buys = over_limits(self.buys, start, &step);
+        over_limits(self.sells, of_buys, step)
     }
 
     // The best over all limits of the book.
     fn best(&self) -> Merit
         ensures { result ≡ best_from self.now nothing (limits self.now) }
     {
-        let of_buys = self.best_over(self.buys, Merit::default());
-        self.best_over(self.sells, of_buys)
-    }
-
-    // The ends with one limit more.
-    fn ends_with(&self, best: Merit, ends: Ends, limit: u32) -> Ends
-        ensures { result ≡ widen best ends limit (demand self.now limit) (supply self.now limit) }
-    {
-        widened(ends, best, limit, self.demand(limit), self.supply(limit))
-    }
-
-    fn ends_over(&self, orders: &[Order], best: Merit, start: Ends) -> Ends
-        ensures { result ≡ ends_from self.now best start (filter_map (λ o. limit_of o.terms) orders.now) }
-    {
-        orders
-            .iter()
-            .filter_map(|order| order.terms.limit())
-            .fold(start, |ends, limit| self.ends_with(best, ends, limit))
+        self.fold_limits(Merit::default(), |best, limit| {
+            better_of(best, merit_of(self.demand(limit), self.supply(limit)))
+        })
     }
 
     // The ends over all limits of the book.
     fn ends(&self, best: Merit) -> Ends
         ensures { result ≡ ends_from self.now best no_ends (limits self.now) }
     {
-        let of_buys = self.ends_over(self.buys, best, Ends::default());
-        self.ends_over(self.sells, best, of_buys)
+        self.fold_limits(Ends::default(), |ends, limit| {
+            widened(ends, best, limit, self.demand(limit), self.supply(limit))
+        })
     }
 
     // Whether no order has a limit, and orders stand on both sides.
