@@ -1,11 +1,11 @@
 -- What stands after some lines. Assumes nothing.
-use Rattle.std.proofs.Common.{◌≡◌, ◌-◌, ◌<◌, List, map, ap, subst, arith}
+use Rattle.std.proofs.Common.{◌≡◌, ℕ, ◌-◌, ◌<◌, List, [], ◌∷◌, map, fold, ap, subst, arith}
 use Rattle.std.proofs.lemmas.Bool.{ltb-true, lt-ltb}
 use Rattle.words.specs.declared.orders.Order.{Order}
 use Rattle.words.specs.declared.sides.Side.{Side}
 use Rattle.words.specs.declared.tape.Trade.{Trade}
 use Rattle.words.specs.Orders.{resized}
-use Rattle.ranking.specs.Lists.{In}
+use Rattle.ranking.specs.Lists.{In, total}
 use Rattle.ranking.proofs.Lists.{in_kept, kept_in, map_in, in_map}
 use Rattle.execution.specs.Settling.{traded, left_by, stands, settled}
 
@@ -24,3 +24,8 @@ module _ (x : Side) (ls : List Trade) (os : List Order) where
       let r = map_in (left_by x ls) os o k.0 in
       let rest : o.quantity ≡ r.0.quantity - traded x r.0.number ls = ap (λ z. z.quantity) r.2 in
       (r.0, r.1, r.2, omega (arith, ltb-true _ _ k.1))
+
+-- taking off one after the other what f says of each takes off the total
+pub taken_off : {X : Type 0} (f : X → ℕ) (q : ℕ) (xs : List X) → fold (λ left x. left - f x) q xs ≡ q - total f xs
+taken_off f q [] = omega arith
+taken_off f q (x ∷ xs) = omega (arith, taken_off f (q - f x) xs)

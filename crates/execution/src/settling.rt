@@ -21,10 +21,9 @@ fn part_of(side: Side, number: u16, line: Trade) -> u32
 pub fn left_of(side: Side, order: Order, lines: &[Trade]) -> Order
     ensures { result ≡ left_by side lines.now order }
 {
-    let mut left = order.quantity;
-    for line in lines {
-        left = left.saturating_sub(part_of(side, order.number, *line));
-    }
+    let left = lines.iter().fold(order.quantity, |left, line| {
+        left.saturating_sub(part_of(side, order.number, *line))
+    });
     Order {
         quantity: left,
         ..order
