@@ -57,7 +57,7 @@ abbrev pub emptied : Book → Book
 emptied b = placed b None
 
 -- a book that can be asked about an order: its sides are not over full, and with the order in it sums of quantities still fit
-pub record Answers (b : Book) (o : Order) : Type 0 where
+pub record FitsQuestion (b : Book) (o : Order) : Type 0 where
   pub buys : vec_len b.buys ≤ 128
   pub sells : vec_len b.sells ≤ 128
   pub few_buys : Few (joined (standing_of b) o).buys

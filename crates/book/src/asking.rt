@@ -1,7 +1,7 @@
 // The what-if question: what would the call give with one more order in it?
 ghost use Rattle.std.specs.Prelude.{◌≡◌, ◌+◌, ◌≤◌, length};
 ghost use Rattle.book.specs.Asking.{answer_in, answer_of};
-ghost use Rattle.book.specs.Books.{standing_of, joined, emptied, Answers};
+ghost use Rattle.book.specs.Books.{standing_of, joined, emptied, FitsQuestion};
 ghost use Rattle.book.specs.Striking.{trades_of, struck_of};
 ghost use Rattle.execution.specs.Execution.{written};
 ghost use Rattle.pricing.specs.Laws.{LawOfPrice};
@@ -46,7 +46,7 @@ impl Book {
         gathered: &mut Scratch,
         ranked: &mut Scratch,
     ) -> Answer
-        requires { Answers self.old order }
+        requires { FitsQuestion self.old order }
         ensures after { self.new ≡ emptied self.old }
         ensures value { result ≡ answer_of (standing_of self.old) order reference }
         ensures law_of_price { LawOfPrice (joined (standing_of self.old) order) reference result.outcome.price }
@@ -66,7 +66,7 @@ impl Book {
         gathered: &mut Scratch,
         ranked: &mut Scratch,
     ) -> Struck
-        requires answers { Answers self.old order }
+        requires fits { FitsQuestion self.old order }
         requires room { length (joined (standing_of self.old) order).buys + length (joined (standing_of self.old) order).sells ≤ length tape.old + 1 }
         ensures after { self.new ≡ emptied self.old }
         ensures value { result ≡ struck_of (joined (standing_of self.old) order) reference }

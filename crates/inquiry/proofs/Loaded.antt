@@ -1,5 +1,5 @@
 -- The orders of a study enter one after the other, and none is refused. Assumes nothing.
-use Rattle.std.proofs.Common.{◌≡◌, ℕ, zero, suc, ◌+◌, ◌<◌, ◌≤◌, true, cond, not, ◌&&◌, eqb, List, [], ◌∷◌, ◌++◌, length, get_or, take, drop, None, Result, sym, refl, ap, ◌∙◌, ap₂, arith, length-append, length-take}
+use Rattle.std.proofs.Common.{◌≡◌, ℕ, zero, suc, ◌+◌, ◌<◌, ◌≤◌, true, cond, not, ◌&&◌, eqb, List, [], ◌∷◌, ◌++◌, length, get_or, take, drop, None, Ok, Result, IsOk, sym, refl, ap, ◌∙◌, subst, ap₂, arith, length-append, length-take}
 use Rattle.std.proofs.lemmas.List.Elements.{filter-append}
 use Rattle.std.proofs.lemmas.List.Filters.{length-filter_both}
 use Rattle.std.proofs.lemmas.List.{take_more, take-append-drop, append-nil}
@@ -155,3 +155,11 @@ module _ (reference : ℕ) (os : List Order) (i : ℕ) (h : FitOrders os) (k : i
       → ◌≡◌ {A = State × Result ℕ Refusal} (s', r) (enter_step s t.side t.kind t.price t.quantity) → s' ≡ holding reference (take (i + 1) os)
   one_more s s' t r g e f =
       ap (λ z. z.0) f ∙ ap₂ (λ (s : State) (t : Ticket). (enter_step s t.side t.kind t.price t.quantity).0) e g ∙ granted ∙ same_order ∙ holds
+
+  pub one_taken : (s s' : State) (t : Ticket) (r : Result ℕ Refusal) → t ≡ ticket_of (get_or os i no_order) → s ≡ holding reference (take i os)
+      → ◌≡◌ {A = State × Result ℕ Refusal} (s', r) (enter_step s t.side t.kind t.price t.quantity) → IsOk r
+  one_taken s s' t r g e f =
+      let is : r ≡ Ok (st.last + 1) =
+          ap (λ z. z.1) f ∙ ap₂ (λ (s : State) (t : Ticket). (enter_step s t.side t.kind t.price t.quantity).1) e g
+          ∙ ap (λ w. (enter_by st o.side (kind_of o.terms) (price_in o.terms) o.quantity w).1) nothing_due in
+      subst IsOk (sym is) refl

@@ -19,7 +19,7 @@ fn put_all(auction: &mut Auction, orders: &[Order])
     ensures { view auction.new ≡ holding (view auction.old).reference orders.now }
 {
     for order in orders {
-        let _ = auction.enter(Ticket::from(*order));
+        let _ = auction.enter(Ticket::from(*order)).unwrap();
     }
 }
 

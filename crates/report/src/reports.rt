@@ -37,7 +37,7 @@ impl Writer<'_> {
             Some(question) => question.trades(&mut self.auction, tape.as_mut_slice()),
             None => trades_of(&mut self.auction, tape.as_mut_slice()),
         };
-        let lines = tape.get(..struck.lines).unwrap_or(&[]);
+        let lines = &tape[..struck.lines];
         let trades = Trades(lines);
         let rest = Rest {
             orders: self.orders,

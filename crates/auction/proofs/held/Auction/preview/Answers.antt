@@ -8,8 +8,8 @@ use Rattle.auction.proofs.Sounds.{few_joined, apart_joined, empty_again, Kept, k
 use Rattle.auction.proofs.Trades.{call_law}
 use Rattle.auction.proofs.held.Auction.preview.Goals as goal
 
-pub preview-struck-requires-clause-answers : goal.preview-struck-requires-clause-answers
-preview-struck-requires-clause-answers c =
+pub preview-struck-requires-clause-fits : goal.preview-struck-requires-clause-fits
+preview-struck-requires-clause-fits c =
     let a = c.args.self.now in
     let o = c.in_ok-order.order in
     let fit = c.in_ok-order.ensures.fit in
