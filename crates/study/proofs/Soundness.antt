@@ -1,5 +1,5 @@
 -- Every study that is read is sound: each line keeps what holds of the lines before it. Assumes nothing.
-use Rattle.std.proofs.Common.{◌≡◌, ℕ, zero, suc, ◌+◌, ◌*◌, ◌≤◌, Bool, true, false, cond, ◌&&◌, eqb, ltb, leb, List, [], ◌∷◌, ◌++◌, length, get_or, take, drop, IfOk, Some, Ok, Err, codes, Option, Result, refl, sym, subst, ◌∙◌, arith}
+use Rattle.std.proofs.Common.{◌≡◌, ℕ, zero, suc, ◌+◌, ◌*◌, ◌≤◌, Bool, true, false, cond, ◌&&◌, eqb, ltb, leb, List, [], ◌∷◌, ◌++◌, length, get_or, take, drop, IfOk, Some, None, Ok, Err, codes, Option, Result, refl, sym, ap, subst, ◌∙◌, arith}
 use Rattle.std.specs.Str.{bytes_eq}
 use Rattle.std.proofs.lemmas.List.Folds.{list_all-append}
 use Rattle.std.proofs.lemmas.Bool.{ltb-true, leb-true, and_parts, and_from, eq-eqb}
@@ -17,7 +17,8 @@ use Rattle.study.specs.Bytes.{all}
 use Rattle.study.specs.Numbers.{value, is_number, quantity_of, ranged_price, decimal_price, point_at, price_of}
 use Rattle.study.specs.Wording.{words_of, ended, side_of, kind_of}
 use Rattle.study.specs.Statements.{and_then, last_price, terms_with, terms_of, unnumbered, order_from, order_of, statement_of, before_comment, is_text, line_of}
-use Rattle.study.specs.Studies.{count_on, numbered, next_order}
+use Rattle.study.specs.declared.faults.Reason.{Reason}
+use Rattle.study.specs.Studies.{Reading, start, count_on, fault, numbered, next_order, reference_step, taken, line_step, lines_read, finished, lines_of, study_of}
 use Rattle.study.specs.Sound.{fit_terms, fit_order, is_unnumbered, numbered_from, Sound, SoundSoFar}
 use Rattle.std.proofs.lemmas.Option.{same_Some}
 use Rattle.study.proofs.Entering.{few_more}
@@ -190,3 +191,37 @@ line_says l x e = subst (λ r. IfOk r FitLine) e (line_good l)
 pub pushed : (b : Bool) (new more old : List Order) (P : List Order → Type 0) → new ≡ cond b more old → P more → P old → P new
 pushed true new more old P e p q = subst P (sym e) p
 pushed false new more old P e p q = subst P (sym e) q
+
+-- ---- of every text, whatever memory there is
+
+start_kept : SoundSoFar start
+start_kept = record { reference_fit = λ p e. absurd (cc); orders_fit = refl; asks_fit = refl; few = record { buys = omega arith; sells = omega arith }; numbers = refl; asks_unnumbered = refl }
+
+refer_step : (n : ℕ) (o : Option ℕ) (os qs : List Order) (p : ℕ) → Price p → SoundSoFar (record { reference = o; orders = os; asks = qs }) → IfOk (reference_step n (record { reference = o; orders = os; asks = qs }) p) SoundSoFar
+refer_step n (Some q) os qs p h k = tt
+refer_step n None os qs p h k = refer_kept None os qs p h k
+
+taken_kept : (n : ℕ) (s : Reading) (x : Line) → FitLine x → SoundSoFar s → IfOk (taken n s x) SoundSoFar
+taken_kept n s Blank h k = k
+taken_kept n s (Reference p) h k = refer_step n s.reference s.orders s.asks p h k
+taken_kept n s (Entry o) h k =
+    by_true (ltb (count_on o.side s.orders) 128) _ (fault n SideFull) SoundSoFar
+    (λ room. enter_kept s.reference s.orders s.asks o (numbered o (length s.orders + 1)) h (ap (λ b. cond b (Ok (numbered o (length s.orders + 1))) (Err SideFull)) room) k)
+taken_kept n s (Ask o) h k = ask_kept s.reference s.orders s.asks o h k
+
+step_kept : (n : ℕ) (s : Reading) (r : Result Line Reason) → IfOk r FitLine → SoundSoFar s → IfOk (elim r [ Ok x ↦ taken n s x | Err e ↦ Err (fault n e) ]) SoundSoFar
+step_kept n s (Ok x) h k = taken_kept n s x h k
+step_kept n s (Err e) h k = tt
+
+lines_kept : (n : ℕ) (s : Reading) (ls : List (List ℕ)) → SoundSoFar s → IfOk (lines_read n s ls) SoundSoFar
+lines_kept n s [] k = k
+lines_kept n s (l ∷ ls) k = by_steps (line_step (n + 1) s l) _ SoundSoFar SoundSoFar (step_kept (n + 1) s (line_of l) (line_good l) k) (λ t h. lines_kept (n + 1) t ls h)
+
+finished_sound : (n : ℕ) (o : Option ℕ) (os qs : List Order) → SoundSoFar (record { reference = o; orders = os; asks = qs }) → IfOk (finished n (record { reference = o; orders = os; asks = qs })) Sound
+finished_sound n (Some p) os qs k = finish_kept p os qs k
+finished_sound n None os qs k = by_test (eqb (length os) 0 && eqb (length qs) 0) _ _ Sound tt tt
+
+pub study_sound : (t : List ℕ) → IfOk (study_of t) Sound
+study_sound t =
+    by_steps (lines_read 0 start (lines_of t)) _ SoundSoFar Sound (lines_kept 0 start (lines_of t) start_kept)
+    (λ s k. finished_sound (length (lines_of t)) s.reference s.orders s.asks k)

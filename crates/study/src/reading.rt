@@ -1,5 +1,5 @@
 // A whole study, read line by line.
-ghost use Rattle.std.specs.Prelude.{◌≡◌, length, IfOk, Ok};
+ghost use Rattle.std.specs.Prelude.{◌≡◌, ℕ, List, length, IfOk, Ok};
 ghost use Rattle.std.specs.Iterator.{YieldsFirstRef, item_count};
 ghost use Rattle.study.specs.Studies.{Content, lines_of, lines_read, study_of};
 ghost use Rattle.study.specs.Sound.{Sound};
@@ -67,11 +67,12 @@ fn read_all(heap: Global, text: &[u8]) -> Result<Study, StudyError>
     draft.finish(count_lines(text))
 }
 
-// The study that the text writes, or its first fault. What is read is fit for a book, and whatever is fit for a book can be
-// written and reads as itself.
+// The study that the text writes, or its first fault. What is read is fit for a book, so is what any text says, and whatever is
+// fit for a book can be written and reads as itself.
 pub fn read_study(heap: Global, text: &[u8]) -> Result<Study, StudyError>
     ensures value { Agrees result content (study_of text.now) }
     ensures sound { IfOk result (λ s. Sound (content s)) }
+    ensures law_of_reading { (t : List ℕ) → IfOk (study_of t) Sound }
     ensures written { (s : Content) → Sound s → text.now ≡ written_study s → Agrees result content (Ok s) }
 {
     read_all(heap, text)
