@@ -160,6 +160,6 @@ module _ (reference : ℕ) (os : List Order) (i : ℕ) (h : FitOrders os) (k : i
       → ◌≡◌ {A = State × Result ℕ Refusal} (s', r) (enter_step s t.side t.kind t.price t.quantity) → IsOk r
   one_taken s s' t r g e f =
       let is : r ≡ Ok (st.last + 1) =
-          ap (λ z. z.1) f ∙ ap₂ (λ (s : State) (t : Ticket). (enter_step s t.side t.kind t.price t.quantity).1) e g
-          ∙ ap (λ w. (enter_by st o.side (kind_of o.terms) (price_in o.terms) o.quantity w).1) nothing_due in
+      ap (λ z. z.1) f ∙ ap₂ (λ (s : State) (t : Ticket). (enter_step s t.side t.kind t.price t.quantity).1) e g
+      ∙ ap (λ w. (enter_by st o.side (kind_of o.terms) (price_in o.terms) o.quantity w).1) nothing_due in
       subst IsOk (sym is) refl

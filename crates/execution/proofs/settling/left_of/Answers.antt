@@ -10,5 +10,5 @@ pub returns : goal.returns
 returns c =
     let o = c.args.order in
     ap (resized o)
-      (fold_from_yields_List _ (λ left l. left - cond (named_by c.args.side l == o.number) l.quantity 0) _ _ c.fold-left.ensures.ran (YieldsList-from_slice c.args.lines.now c.iter.ensures.rest) (λ a x b q k. search rules)
-      ∙ taken_off (λ l. cond (named_by c.args.side l == o.number) l.quantity 0) o.quantity c.args.lines.now)
+    (fold_from_yields_List _ (λ left l. left - cond (named_by c.args.side l == o.number) l.quantity 0) _ _ c.fold-left.ensures.ran (YieldsList-from_slice c.args.lines.now c.iter.ensures.rest) (λ a x b q k. search rules)
+    ∙ taken_off (λ l. cond (named_by c.args.side l == o.number) l.quantity 0) o.quantity c.args.lines.now)
