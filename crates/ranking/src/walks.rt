@@ -42,6 +42,9 @@ pub fn walk<T: Open>(entries: &mut [T], volume: u32) -> u32
 {
     let mut rest = volume;
     for e in entries.iter_mut() {
+        if rest == 0 {
+            break;
+        }
         let q = rest.min(e.left());
         e.lower(q);
         rest -= q;
