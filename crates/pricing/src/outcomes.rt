@@ -27,10 +27,12 @@ impl Standing<'_> {
         let Some(at) = price else {
             return Outcome::default();
         };
+        let demand = self.demand(at);
+        let supply = self.supply(at);
         Outcome {
             price,
-            volume: self.volume(at),
-            surplus: surplus_of(self.demand(at), self.supply(at)),
+            volume: demand.min(supply),
+            surplus: surplus_of(demand, supply),
         }
     }
 
