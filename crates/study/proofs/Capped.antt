@@ -9,7 +9,7 @@ cap n = min n 1000001
 one : (m d : ℕ) → cap (cap m * 10 + d) ≡ cap (m * 10 + d)
 one m d = omega arith
 
-capped : (m : ℕ) (bs : List ℕ) → cap (value_after (cap m) bs) ≡ cap (value_after m bs)
+pub capped : (m : ℕ) (bs : List ℕ) → cap (value_after (cap m) bs) ≡ cap (value_after m bs)
 capped m [] = omega arith
 capped m (b ∷ bs) =
     sym (capped (cap m * 10 + (b - 48)) bs) ∙ ap (λ n. cap (value_after n bs)) (one m (b - 48)) ∙ capped (m * 10 + (b - 48)) bs

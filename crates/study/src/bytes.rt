@@ -21,7 +21,7 @@ pub(crate) fn is_plain(byte: u8) -> bool
 pub(crate) fn is_comment(byte: u8) -> bool
     ensures { result ≡ is_comment byte }
 {
-    is_plain(byte) || !byte.is_ascii()
+    !byte.is_ascii() || is_plain(byte)
 }
 
 pub(crate) fn all_plain(bytes: &[u8]) -> bool

@@ -25,7 +25,13 @@ pub(crate) struct Draft {
 fn count(side: Side, orders: &[Order]) -> usize
     ensures { result ≡ count_on side orders.now }
 {
-    orders.iter().filter(|order| order.side == side).count()
+    let mut n = 0;
+    for order in orders {
+        if order.side == side {
+            n += 1;
+        }
+    }
+    n
 }
 
 impl Draft {

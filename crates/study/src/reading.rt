@@ -43,28 +43,25 @@ impl<'a> Iterator for Lines<'a> {
     }
 }
 
-// Takes over every line.
-fn read_lines(draft: &mut Draft, text: &[u8]) -> Result<(), StudyError>
-    ensures { Agrees result (λ _. view draft.new) (lines_read 0 (view draft.old) (lines_of text.now)) }
+// Takes over every line, and says how many there are.
+fn read_lines(draft: &mut Draft, text: &[u8]) -> Result<usize, StudyError>
+    ensures read { Agrees result (λ _. view draft.new) (lines_read 0 (view draft.old) (lines_of text.now)) }
+    ensures count { IfOk result (λ n. n ≡ length (lines_of text.now)) }
 {
-    for (i, line) in Lines(text).enumerate() {
-        draft.take(i + 1, line)?;
+    let mut count = 0;
+    for line in Lines(text) {
+        count += 1;
+        draft.take(count, line)?;
     }
-    Ok(())
-}
-
-fn count_lines(text: &[u8]) -> usize
-    ensures { result ≡ length (lines_of text.now) }
-{
-    Lines(text).count()
+    Ok(count)
 }
 
 fn read_all(heap: Global, text: &[u8]) -> Result<Study, StudyError>
     ensures { Agrees result content (study_of text.now) }
 {
     let mut draft = Draft::new(heap);
-    read_lines(&mut draft, text)?;
-    draft.finish(count_lines(text))
+    let lines = read_lines(&mut draft, text)?;
+    draft.finish(lines)
 }
 
 // The study that the text writes, or its first fault. What is read is fit for a book, so is what any text says, and whatever is
