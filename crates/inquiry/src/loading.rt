@@ -1,8 +1,8 @@
 // The book of a study, loaded into an auction.
-ghost use Rattle.std.specs.Prelude.{◌≡◌, []};
+ghost use Rattle.std.specs.Prelude.{◌≡◌, [], Ok};
 ghost use Rattle.auction.specs.States.{view};
 ghost use Rattle.inquiry.specs.Loading.{holding, FitOrders, Loads};
-ghost use Rattle.pricing.specs.Sides.{sides};
+ghost use Rattle.study.specs.Sound.{Sound};
 ghost use Rattle.study.specs.Views.{content};
 
 use auction::held::Auction;
@@ -10,24 +10,23 @@ use auction::held::calls::MakeError;
 use std::alloc::Global;
 use study::reading::Study;
 use words::orders::{Order, Ticket};
+use words::refusals::Refusal;
 
-// Enters the orders of a study. None of them is refused.
-fn put_all(auction: &mut Auction, orders: &[Order])
-    requires fit { FitOrders orders.now }
-    requires unnumbered { (view auction.old).last ≡ 0 }
-    requires empty { (view auction.old).sides ≡ sides [] [] }
-    ensures { view auction.new ≡ holding (view auction.old).reference orders.now }
+// Enters the orders, up to one that is refused. None is, where they are fit and the auction holds none yet.
+fn put_all(auction: &mut Auction, orders: &[Order]) -> Result<(), Refusal>
+    ensures { FitOrders orders.now → view auction.old ≡ holding (view auction.old).reference [] → (result ≡ Ok tt) × (view auction.new ≡ holding (view auction.old).reference orders.now) }
 {
     for order in orders {
-        let _ = auction.enter(Ticket::from(*order)).unwrap();
+        auction.enter(Ticket::from(*order))?;
     }
+    Ok(())
 }
 
-// An auction that holds what the study says.
+// An auction that holds what the study says, if that is sound. Another study may be refused.
 pub fn load(heap: Global, study: &Study) -> Result<Auction, MakeError>
-    ensures { Loads (content study.now) result }
+    ensures { Sound (content study.now) → Loads (content study.now) result }
 {
     let mut auction = Auction::new(heap, study.reference)?;
-    put_all(&mut auction, study.orders.as_slice());
+    put_all(&mut auction, study.orders.as_slice()).map_err(MakeError::Refused)?;
     Ok(auction)
 }

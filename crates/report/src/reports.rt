@@ -1,6 +1,10 @@
 // The answer to a whole study.
+ghost use Rattle.std.specs.Prelude.{◌≡◌, true};
 ghost use Rattle.report.specs.Reports.{Answers};
+ghost use Rattle.study.specs.Bytes.{all};
+ghost use Rattle.study.specs.Sound.{Sound, fit_order, is_unnumbered};
 ghost use Rattle.study.specs.Studies.{study_of};
+ghost use Rattle.study.specs.Views.{content};
 
 use crate::pictures::Picture;
 use crate::tables::{OrderText, Orders, Outcomes, Rest, Sentence, Shares, Trades};
@@ -80,8 +84,11 @@ impl Writer<'_> {
         self.trades(Some(question))
     }
 
-    fn questions(&mut self, study: &Study) -> Result<(), AllocError> {
-        for (i, asked) in study.asks.iter().enumerate() {
+    fn questions(&mut self, asks: &[Order]) -> Result<(), AllocError>
+        requires fit { all fit_order asks.now ≡ true }
+        requires unnumbered { all is_unnumbered asks.now ≡ true }
+    {
+        for (i, asked) in asks.iter().enumerate() {
             write!(self.out, "\nQuestion {}: {}\n\n", i + 1, OrderText(*asked))?;
             self.question(Question::new(*asked))?;
         }
@@ -89,12 +96,14 @@ impl Writer<'_> {
     }
 
     // The whole answer to the study.
-    fn answer(&mut self, study: &Study) -> Result<(), AllocError> {
+    fn answer(&mut self, study: &Study) -> Result<(), AllocError>
+        requires { Sound (content study.now) }
+    {
         self.book(study.reference)?;
         if study.asks.is_empty() {
             self.call()
         } else {
-            self.questions(study)
+            self.questions(study.asks.as_slice())
         }
     }
 }

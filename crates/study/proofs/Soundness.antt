@@ -10,6 +10,8 @@ use Rattle.words.specs.declared.terms.Kind.{Kind}
 use Rattle.words.specs.declared.terms.Kind.TheVariants as kinds
 use Rattle.words.specs.Terms.{is_price, is_quantity}
 use Rattle.words.specs.Orders.{no_order}
+use Rattle.study.specs.declared.faults.StudyError.{StudyError}
+use Rattle.study.specs.declared.studies.Study.{Study}
 use Rattle.study.specs.declared.faults.Reason.TheVariants.{PriceRange, QuantityRange, SideFull}
 use Rattle.study.specs.declared.statements.Line.{Line}
 use Rattle.study.specs.declared.statements.Line.TheVariants.{Blank, Reference, Entry, Ask}
@@ -20,6 +22,7 @@ use Rattle.study.specs.Statements.{and_then, last_price, terms_with, terms_of, u
 use Rattle.study.specs.declared.faults.Reason.{Reason}
 use Rattle.study.specs.Studies.{Reading, start, count_on, fault, numbered, next_order, reference_step, taken, line_step, lines_read, finished, lines_of, study_of}
 use Rattle.study.specs.Sound.{fit_terms, fit_order, is_unnumbered, numbered_from, Sound, SoundSoFar}
+use Rattle.study.specs.Views.{content, Agrees}
 use Rattle.std.proofs.lemmas.Option.{same_Some}
 use Rattle.study.proofs.Entering.{few_more}
 
@@ -225,3 +228,7 @@ pub study_sound : (t : List ℕ) → IfOk (study_of t) Sound
 study_sound t =
     by_steps (lines_read 0 start (lines_of t)) _ SoundSoFar Sound (lines_kept 0 start (lines_of t) start_kept)
     (λ s k. finished_sound (length (lines_of t)) s.reference s.orders s.asks k)
+
+pub answer_sound : (r : Result Study StudyError) (t : List ℕ) → Agrees r content (study_of t) → IfOk r (λ s. Sound (content s))
+answer_sound (Ok s) t e = subst (λ a. IfOk a Sound) e (study_sound t)
+answer_sound (Err e) t h = tt
